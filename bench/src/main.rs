@@ -1,0 +1,131 @@
+//! Times the port's archive against the original, both in one run, and prints
+//! a table. Lent buffers are used again and again and never cleared between
+//! calls; the original makes a new `String` each time, as its callers get it.
+
+use oracle::random::Random;
+use oracle::{disasm, images};
+use std::hint::black_box;
+use std::time::{Duration, Instant};
+
+const SETS: usize = 16;
+const WORDS: usize = 256;
+const ROUNDS: usize = 60;
+/// How long one side runs in one round.
+const TURN: Duration = Duration::from_millis(3);
+/// The bytes of a text, and enough for the longest listing.
+const TEXT: usize = 32;
+const LISTING: usize = 12_288;
+
+fn main() {
+    let sets: Vec<Vec<u16>> = (1..=SETS).map(|seed| mix(seed as u64)).collect();
+    agree(&sets);
+    println!("| name | Rust ns | ours ns | ratio | limit |");
+    println!("|---|---:|---:|---:|---:|");
+    row("`disassemble` of 256 words", "0.1", disassembling(&sets));
+    row("listing of 256 words", "none", listing(&sets));
+}
+
+/// Each of the sixteen first digits equally often, in an order by chance.
+fn mix(seed: u64) -> Vec<u16> {
+    let mut random = Random::new(seed);
+    let mut words: Vec<u16> = (0..WORDS)
+        .map(|index| (index as u16) << 12 | random.word() >> 4)
+        .collect();
+    for last in (1..WORDS).rev() {
+        words.swap(last, random.below(last + 1));
+    }
+    words
+}
+
+/// Times mean nothing where the two sides do not do the same.
+fn agree(sets: &[Vec<u16>]) {
+    let (mut text, mut out) = ([0; TEXT], [0; LISTING]);
+    for words in sets {
+        for word in words {
+            let length = archive::disassemble(*word, &mut text) as usize;
+            assert_eq!(text[..length], *disasm::disassemble(*word).as_bytes());
+        }
+        let length = archive::listing(&images::bytes(words), &mut out) as usize;
+        assert_eq!(out[..length], *disasm::disassemble_image(words).as_bytes());
+    }
+}
+
+fn disassembling(sets: &[Vec<u16>]) -> (f64, f64) {
+    let mut out = [0; TEXT];
+    let mut rust = || {
+        for word in sets.iter().flatten() {
+            black_box(disasm::disassemble(black_box(*word)));
+        }
+    };
+    let mut ours = || {
+        for word in sets.iter().flatten() {
+            black_box(archive::disassemble(black_box(*word), black_box(&mut out)));
+        }
+    };
+    medians(&mut rust, &mut ours)
+}
+
+fn listing(sets: &[Vec<u16>]) -> (f64, f64) {
+    let byte_sets: Vec<Vec<u8>> = sets.iter().map(|words| images::bytes(words)).collect();
+    let mut out = vec![0; LISTING];
+    let mut rust = || {
+        for words in sets {
+            black_box(disasm::disassemble_image(black_box(words)));
+        }
+    };
+    let mut ours = || {
+        for image in &byte_sets {
+            black_box(archive::listing(black_box(image), black_box(&mut out)));
+        }
+    };
+    medians(&mut rust, &mut ours)
+}
+
+/// The median nanoseconds for one set, of either side. The sides take turns,
+/// and the one that begins changes, so that what disturbs one disturbs both.
+fn medians(rust: &mut dyn FnMut(), ours: &mut dyn FnMut()) -> (f64, f64) {
+    let (rust_passes, our_passes) = (passes(rust), passes(ours));
+    let (mut rust_times, mut our_times) = (Vec::new(), Vec::new());
+    for round in 0..ROUNDS {
+        if round % 2 == 0 {
+            rust_times.push(timed(rust, rust_passes));
+            our_times.push(timed(ours, our_passes));
+        } else {
+            our_times.push(timed(ours, our_passes));
+            rust_times.push(timed(rust, rust_passes));
+        }
+    }
+    (median(rust_times), median(our_times))
+}
+
+/// How many passes over all sets fill a turn. The first pass warms up.
+fn passes(side: &mut dyn FnMut()) -> u32 {
+    side();
+    let start = Instant::now();
+    let mut passes = 0;
+    while start.elapsed() < TURN {
+        side();
+        passes += 1;
+    }
+    passes
+}
+
+fn timed(side: &mut dyn FnMut(), passes: u32) -> f64 {
+    let start = Instant::now();
+    for _ in 0..passes {
+        side();
+    }
+    start.elapsed().as_nanos() as f64 / f64::from(passes) / SETS as f64
+}
+
+fn median(mut times: Vec<f64>) -> f64 {
+    times.sort_by(f64::total_cmp);
+    (times[(times.len() - 1) / 2] + times[times.len() / 2]) / 2.0
+}
+
+fn row(name: &str, limit: &str, (rust, ours): (f64, f64)) {
+    println!(
+        "| {name} | {rust:.0} | {ours:.0} | {:.3} | {limit} |",
+        ours / rust
+    );
+}

@@ -1,0 +1,30 @@
+-- `encoding::put_bytes` meets its contract: it copies where the bytes fit, and else leaves the slice.
+-- Assumes nothing.
+use mathlib.Core.Path.{sym, _∙_}
+use borrow.Author.Needs.{needs}
+use borrow.Author.Tests.{leb-true}
+use Rattle.encoding.specs.Bytes.{written}
+use Rattle.encoding.proofs.put_bytes.Statement.{statement}
+use Rattle.encoding.proofs.put_bytes.Tie as tie
+
+inside-requires : tie.Need-inside-requires
+inside-requires c κs = search needs
+
+copy-requires : tie.Need-copy-requires
+copy-requires c κs = leb-true _ _ (sym (c .before .before .inside .ensures) ∙ c .before .if1 .taken)
+
+same-length : tie.Need-same-length
+same-length c = search needs
+
+returns : tie.Need-returns
+unfolding written
+returns c =
+    let t = c .before .before .before .before in
+    c .before .before .copy .ensures ∙ simp (sym (t .before .inside .ensures) ∙ t .if1 .taken)
+
+returns-2 : tie.Need-returns-2
+unfolding written
+returns-2 c = simp (sym (c .before .inside .ensures) ∙ c .if1 .left)
+
+pub put-bytes-spec : {M : Type 1} → statement M
+put-bytes-spec = tie.close (tie.spec inside-requires copy-requires same-length returns returns-2)

@@ -1,0 +1,4 @@
+pub mod Text
+pub mod Opcode
+pub mod Word
+pub mod Format

@@ -1,0 +1,58 @@
+-- The laws of the calls' answers.
+-- Assumes nothing.
+use Prim.Native.Nat.{ℕ, zero, suc, _≤_, _<_}
+use native.Mathlib.Omega.{arith}
+use mathlib.Core.Path.{_≡_, refl, sym, ap, _∙_}
+use mathlib.Core.List.{List}
+use borrow.Author.Tests.{lt-ltb, le-ltb}
+use lib.IntN.{ℤ, pos, negℤ, _-ℤ_, +ℤ-idl}
+use lib.ListN.{length}
+use mir.Syntax.{w64}
+use mir.Val.{toZ, ofZ, SFits}
+use mir.ValLaws.{toZ-pos, toZ-ofZ}
+use Rattle.isa.specs.declared.text.Text.{Text}
+use Rattle.isa.specs.Text.{text, padded}
+use Rattle.encoding.specs.Bytes.{over, written}
+use Rattle.encoding.proofs.Written.{written-fits}
+use Rattle.disasm.specs.Disassembly.{disassembleText}
+use Rattle.disasm.proofs.Texts.{disassembly-short, disassembly-padded}
+use Rattle.massey.specs.Calls.{Outcome, outcome, lengthOf, refused, disassembleOutcome}
+
+-- ---- lengths and refusals as signed numbers
+
+pub small : {n : ℕ} → n ≤ 11709 → SFits w64 (pos n)
+small h = record { sfits = omega arith }
+
+pub length-read : {n : ℕ} → n ≤ 11709 → toZ w64 n ≡ lengthOf n
+length-read {n} h = toZ-pos w64 n (omega arith)
+
+pub minus : {n : ℕ} → n ≤ 255 → pos 0 -ℤ toZ w64 n ≡ refused n
+minus {n} h = rw (toZ-pos w64 n (omega arith)) (+ℤ-idl (negℤ (pos n)))
+
+negative : (n : ℕ) → n ≤ 255 → SFits w64 (refused n)
+negative zero h = record { sfits = omega arith }
+negative (suc n) h = record { sfits = omega arith }
+
+pub minus-fits : {n : ℕ} → n ≤ 255 → SFits w64 (pos 0 -ℤ toZ w64 n)
+minus-fits {n} h = rw (minus h) (negative n h)
+
+pub refusal-read : {n : ℕ} → n ≤ 255 → toZ w64 (ofZ w64 (pos 0 -ℤ toZ w64 n)) ≡ refused n
+refusal-read {n} h = toZ-ofZ w64 (pos 0 -ℤ toZ w64 n) (minus-fits h) ∙ minus h
+
+-- ---- a word's text
+
+pub no-room : (w : ℕ) (out : List ℕ) → length out < 32 → outcome (refused 5) out ≡ disassembleOutcome w out
+unfolding disassembleOutcome
+no-room w out h = simp (lt-ltb (length out) 32 h)
+
+pub shown : (w : ℕ) (out : List ℕ) {t : Text} {o : List ℕ} → 32 ≤ length out → t ≡ text (disassembleText w) → o ≡ written out 0 (t .bytes)
+    → outcome (toZ w64 (t .len)) o ≡ disassembleOutcome w out
+unfolding disassembleOutcome text
+shown w out {t} {o} h e f =
+    let l : length (padded 32 (disassembleText w)) ≡ 32 = disassembly-padded w in
+    let s : length (disassembleText w) ≤ 32 = disassembly-short w in
+    let n : t .len ≡ length (disassembleText w) = ap (λ (u : Text). u .len) e in
+    let b : t .bytes ≡ padded 32 (disassembleText w) = ap (λ (u : Text). u .bytes) e in
+    let a : toZ w64 (t .len) ≡ lengthOf (length (disassembleText w)) = rw n (length-read (omega arith)) in
+    let p : o ≡ over out 0 (padded 32 (disassembleText w)) = f ∙ rw b (written-fits out 0 (padded 32 (disassembleText w)) (omega arith)) in
+    (λ i. outcome (a i) (p i)) ∙ simp (le-ltb (length out) 32 h)

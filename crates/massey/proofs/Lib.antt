@@ -1,0 +1,2 @@
+-- `Answers` has the laws of `specs/Calls.antt`.
+pub mod Answers

@@ -1,0 +1,43 @@
+-- The calls of the archive: a length where the call is served, and minus the refusal's number where it is not (01, section 1).
+-- Assumes nothing.
+use Prim.Native.Nat.{ℕ}
+use mathlib.Core.Bool.{cond}
+use mathlib.Core.List.{List}
+use lib.Dec.{ltb}
+use lib.IntN.{ℤ, pos, negℤ}
+use lib.ListN.{length}
+use Rattle.isa.specs.Text.{padded}
+use Rattle.encoding.specs.Bytes.{over}
+use Rattle.disasm.specs.Disassembly.{disassembleText}
+use Rattle.disasm.specs.Listing.{bytesOutcome}
+use Rattle.disasm.specs.declared.listing.Listed.{Listed}
+use Rattle.disasm.specs.declared.listing.Listed.the-variants.{Written, Refused}
+use Rattle.disasm.specs.Listing as listing
+
+-- what a call answers, and the buffer that it leaves
+pub record Outcome : Type 0 where
+  pub answer : ℤ
+  pub buffer : List ℕ
+
+abbrev pub outcome : ℤ → List ℕ → Outcome
+outcome a b = record { answer = a; buffer = b }
+
+abbrev pub lengthOf : ℕ → ℤ
+lengthOf n = pos n
+
+abbrev pub refused : ℕ → ℤ
+refused n = negℤ (pos n)
+
+-- a text in its field of 32 bytes; refused 5: the buffer has no room for the field
+unfoldable pub disassembleOutcome : ℕ → List ℕ → Outcome
+disassembleOutcome w out =
+    cond (ltb (length out) 32) (outcome (refused 5) out)
+    (outcome (lengthOf (length (disassembleText w))) (over out 0 (padded 32 (disassembleText w))))
+
+-- the answer of the listing as a number
+abbrev pub listedNumber : Listed → ℤ
+listedNumber (Written n) = lengthOf n
+listedNumber (Refused n) = refused n
+
+unfoldable pub listingOutcome : List ℕ → List ℕ → Outcome
+listingOutcome image out = outcome (listedNumber (bytesOutcome image out .answer)) (bytesOutcome image out .buffer)

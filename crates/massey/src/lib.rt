@@ -1,0 +1,34 @@
+// The calls that C and Rust link, on numbers and bytes: include/massey.h. A call answers a length,
+// or minus the refusal's number, and lays no condition on its caller.
+ghost use mathlib.Core.Path.{_≡_};
+ghost use Rattle.massey.specs.Calls.{outcome, disassembleOutcome, listingOutcome};
+use disasm::Listed;
+use disasm::disassemble;
+use disasm::list_bytes;
+use encoding::put_bytes;
+
+// The text of a word, in a field of 32 bytes.
+#[no_mangle]
+pub extern "C" fn massey_disassemble(word: u16, out: &mut [u8]) -> i64
+    ensures { λ r. ⌜ outcome r (now (out .exit)) ≡ disassembleOutcome word (now (out .entry)) ⌝ }
+{
+    if out.len() < 32 {
+        return -5;
+    }
+    let text = disassemble(word);
+    let bytes = text.bytes;
+    put_bytes(out, 0, &bytes);
+    text.len as i64
+}
+
+// The listing of an image whose words are in bytes, high byte first.
+#[no_mangle]
+pub extern "C" fn massey_listing(image: &[u8], out: &mut [u8]) -> i64
+    ensures { λ r. ⌜ outcome r (now (out .exit)) ≡ listingOutcome (now (image .entry)) (now (out .entry)) ⌝ }
+{
+    let listed = list_bytes(image, out);
+    match listed {
+        Listed::Written(n) => n as i64,
+        Listed::Refused(n) => 0 - n as i64,
+    }
+}

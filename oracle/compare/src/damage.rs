@@ -1,0 +1,210 @@
+//! Lists that are wrong: the program must say so, or its 'passed' means
+//! nothing.
+
+use crate::replay::{self, Counts};
+use crate::tally::Tally;
+use oracle::lists;
+use oracle::random::Random;
+use oracle::record::{self, framed, Record, KINDS};
+
+/// Records damaged at one byte each, of every kind.
+const DAMAGED: usize = 200;
+/// An answer that is short enough to damage each of its bytes in turn.
+const SHORT: usize = 400;
+
+pub fn compare(tally: &mut Tally) {
+    let mut random = Random::new(0xDA_3A6E);
+    let records = lists::full();
+    for kind in KINDS {
+        let pool: Vec<&Record> = records
+            .iter()
+            .filter(|record| record.kind == kind)
+            .collect();
+        damaged_answers(tally, &mut random, kind, &pool);
+        let short: Vec<&Record> = pool
+            .into_iter()
+            .filter(|record| record.answer.len() <= SHORT)
+            .collect();
+        damaged_everywhere(tally, &mut random, kind, &short);
+        let last = random.pick(&short);
+        cut_everywhere(tally, last);
+    }
+    cut_large(tally, &mut random);
+    malformed_between_good(tally);
+}
+
+/// One byte of each answer is changed: none may pass.
+fn damaged_answers(tally: &mut Tally, random: &mut Random, kind: u8, pool: &[&Record]) {
+    let damaged: Vec<Record> = (0..DAMAGED)
+        .map(|_| {
+            let record = random.pick(pool);
+            let at = random.below(record.answer.len());
+            damage(random, record, at)
+        })
+        .collect();
+    all_fail(tally, kind, &damaged);
+}
+
+/// Every byte of a few answers is changed in turn, so that none is unread.
+fn damaged_everywhere(tally: &mut Tally, random: &mut Random, kind: u8, pool: &[&Record]) {
+    for _ in 0..4 {
+        let record = random.pick(pool);
+        let damaged: Vec<Record> = (0..record.answer.len())
+            .map(|at| damage(random, record, at))
+            .collect();
+        all_fail(tally, kind, &damaged);
+    }
+}
+
+fn damage(random: &mut Random, record: &Record, at: usize) -> Record {
+    let mut damaged = record.clone();
+    damaged.answer[at] ^= 1 + random.below(255) as u8;
+    damaged
+}
+
+/// Each record is one comparison, passed where the program says 'failed'.
+fn all_fail(tally: &mut Tally, kind: u8, damaged: &[Record]) {
+    let counted = replay::replay(&record::list_bytes(damaged));
+    let wanted = Counts {
+        passed: 0,
+        failed: damaged.len() as u64,
+    };
+    if counted == Ok(wanted) {
+        tally.add(wanted.failed, 0);
+    } else {
+        tally.add(0, wanted.failed);
+        tally.show(|| format!("damaged {:?}: {counted:?}, not {wanted:?}", kind as char));
+    }
+}
+
+/// A list that ends at each byte of its last record: the rest fails as one.
+fn cut_everywhere(tally: &mut Tally, last: &Record) {
+    let whole = record::list_bytes(&[record::word(0x6123), record::byte(0x2A)]);
+    let last = last.bytes();
+    for cut in 0..last.len() {
+        let list = [&whole[..], &last[..cut]].concat();
+        counts_as(tally, &list, 2, (cut > 0) as u64, || {
+            format!("two records and {cut} bytes of {} of a third", last.len())
+        });
+    }
+}
+
+/// Cuts far inside a long list, where a reader's buffer may end too; and a
+/// list with nothing in it.
+fn cut_large(tally: &mut Tally, random: &mut Random) {
+    let words: Vec<Record> = (0..3_000).map(record::word).collect();
+    let list = record::list_bytes(&words);
+    let each = words[0].bytes().len();
+    let by_chance = (0..20).map(|_| random.below(list.len()));
+    for at in by_chance.chain([0, 4_096, 8_192, 65_536, 131_072]) {
+        let (passed, failed) = (at / each, (at % each > 0) as u64);
+        counts_as(tally, &list[..at], passed as u64, failed, || {
+            format!("{at} bytes of a list")
+        });
+    }
+}
+
+/// Each malformed record fails alone, and the good one behind it passes.
+fn malformed_between_good(tally: &mut Tally) {
+    let good = record::listing(&[0x3102, 0xD101, 0x4FFF]).bytes();
+    let malformed = malformed();
+    for (name, body) in &malformed {
+        let list = [&good[..], &framed(body), &good].concat();
+        counts_as(tally, &list, 2, 1, || {
+            format!("{name}: {} bytes between good ones", body.len())
+        });
+    }
+    let together: Vec<u8> = malformed
+        .iter()
+        .flat_map(|(_, body)| [framed(body), good.clone()].concat())
+        .collect();
+    let count = malformed.len() as u64;
+    counts_as(tally, &together, count, count, || {
+        "all malformed records in one list".into()
+    });
+}
+
+/// Records of no known kind, or of a length that is not their kind's.
+fn malformed() -> Vec<(String, Vec<u8>)> {
+    let mut malformed = vec![("no kind".to_string(), Vec::new())];
+    for kind in (0..=255).filter(|kind| !KINDS.contains(kind)) {
+        let name = format!("unknown kind {kind:02X}");
+        malformed.push((name.clone(), vec![kind]));
+        malformed.push((name, [&[kind], &body(&record::word(0x1234))[1..]].concat()));
+    }
+    malformed.push(("unknown kind, longest".into(), vec![b'?'; 65_535]));
+    for record in samples() {
+        malformed.extend(wrong_lengths(&record));
+    }
+    malformed
+}
+
+/// One record of each kind, and of 'N' and 'P' with either answer.
+fn samples() -> [Record; 11] {
+    [
+        record::word(0x5123),
+        record::word(0xE000),
+        record::nibble(0x0D),
+        record::nibble(0x05),
+        record::all(),
+        record::encode([1, 2, 3, 4]),
+        record::byte(0x2A),
+        record::hex(0xFF, 4),
+        record::parse(b"RA"),
+        record::parse(b"R10"),
+        record::listing(&[0x3101, 0xE000]),
+    ]
+}
+
+fn wrong_lengths(record: &Record) -> Vec<(String, Vec<u8>)> {
+    let body = body(record);
+    let longer = [&body[..], &[0]].concat();
+    let longest = [&body[..], &vec![0; 65_535 - body.len()]].concat();
+    let name = |what: &str| format!("{what} {:?}", record.kind as char);
+    let mut wrong = vec![
+        (name("one byte more in"), longer),
+        (name("longest"), longest),
+        (name("one byte less in"), body[..body.len() - 1].to_vec()),
+        (name("nothing but"), vec![record.kind]),
+    ];
+    if matches!(record.kind, b'P' | b'L') {
+        wrong.extend(wrong_counts(&body).map(|body| (name("another count in"), body)));
+    }
+    wrong
+}
+
+/// The question of 'P' and 'L' begins with a count; here it is another one
+/// than the bytes behind it say.
+fn wrong_counts(body: &[u8]) -> [Vec<u8>; 4] {
+    let low = if body[0] == b'L' { 2 } else { 1 };
+    let with = |at: usize, value: u8| {
+        let mut changed = body.to_vec();
+        changed[at] = value;
+        changed
+    };
+    [
+        with(low, body[low] + 1),
+        with(low, body[low] - 1),
+        with(low, 255),
+        with(1, 254),
+    ]
+}
+
+/// A record without its length.
+fn body(record: &Record) -> Vec<u8> {
+    record.bytes()[2..].to_vec()
+}
+
+fn counts_as(
+    tally: &mut Tally,
+    list: &[u8],
+    passed: u64,
+    failed: u64,
+    what: impl FnOnce() -> String,
+) {
+    let counted = replay::replay(list);
+    let wanted = Counts { passed, failed };
+    tally.check(counted == Ok(wanted), || {
+        format!("{}: {counted:?}, not {wanted:?}", what())
+    });
+}

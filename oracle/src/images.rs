@@ -1,0 +1,47 @@
+//! Program images for the listing.
+
+use crate::random::Random;
+
+/// Words of any kind.
+pub fn mixed(random: &mut Random, words: usize) -> Vec<u16> {
+    (0..words).map(|_| random.word()).collect()
+}
+
+/// Mostly LOAD [yz], STORE and JUMP. The listing writes their operand in two
+/// ways, by whether the address is inside the image, so they are aimed at its
+/// two ends, at the word behind it and further out.
+pub fn dense(random: &mut Random, words: usize) -> Vec<u16> {
+    (0..words)
+        .map(|_| match random.below(4) {
+            0 => random.word(),
+            _ => referring(random, words),
+        })
+        .collect()
+}
+
+fn referring(random: &mut Random, words: usize) -> u16 {
+    let opcode = random.pick(&[0x3, 0x4, 0xD]);
+    let register = random.below(16) as u16;
+    let address = match random.below(6) {
+        0 => 0,
+        1 => words.saturating_sub(1),
+        2 => words,
+        3 => words + random.below(4),
+        4 => random.below(words.max(1)),
+        _ => random.below(256),
+    };
+    opcode << 12 | register << 8 | (address as u16 & 0xFF)
+}
+
+/// The form in which the port takes an image: high byte first.
+pub fn bytes(words: &[u16]) -> Vec<u8> {
+    words.iter().flat_map(|word| word.to_be_bytes()).collect()
+}
+
+/// The whole words of an image; an odd byte at the end is none.
+pub fn whole_words(image: &[u8]) -> Vec<u16> {
+    image
+        .chunks_exact(2)
+        .map(|pair| u16::from_be_bytes([pair[0], pair[1]]))
+        .collect()
+}

@@ -1,0 +1,234 @@
+//! One question and the original's answer to it, in the form that the program
+//! `replay_disasm` reads: length 2 (of what follows), kind 1, question, answer.
+//! Numbers are high byte first.
+
+use crate::disasm;
+use crate::images;
+use crate::isa::{self, Instruction, InstructionGroup, Opcode};
+
+/// Every kind of record.
+pub const KINDS: [u8; 8] = *b"WNAEBHPL";
+
+/// The longest text that the port carries, and so the most digits.
+const TEXT: usize = 32;
+const LONG_TEXT: usize = 80;
+
+#[derive(Clone)]
+pub struct Record {
+    pub kind: u8,
+    pub question: Vec<u8>,
+    pub answer: Vec<u8>,
+}
+
+impl Record {
+    /// The record as it stands in a list.
+    pub fn bytes(&self) -> Vec<u8> {
+        framed(&[&[self.kind], &self.question[..], &self.answer[..]].concat())
+    }
+}
+
+/// A body behind its length.
+pub fn framed(body: &[u8]) -> Vec<u8> {
+    let length = u16::try_from(body.len()).expect("a record's length has two bytes");
+    [&length.to_be_bytes(), body].concat()
+}
+
+/// A whole list, as the program reads it.
+pub fn list_bytes(records: &[Record]) -> Vec<u8> {
+    records.iter().flat_map(Record::bytes).collect()
+}
+
+/// 'W': all that the original says of one word.
+pub fn word(word: u16) -> Record {
+    let mut answer = Vec::new();
+    put_fields(&mut answer, Instruction::from_word(word));
+    put_text(&mut answer, &Instruction::from_word(word).to_string());
+    put_text(&mut answer, &isa::format_word(word));
+    put_text(&mut answer, &isa::binary_grouped(word));
+    put_text(&mut answer, &disasm::disassemble(word));
+    let raised = i32::from(isa::to_signed(word)) + 32_768;
+    answer.extend((raised as u16).to_be_bytes());
+    put_optional(&mut answer, disasm::written_register(word));
+    put_optional(&mut answer, disasm::read_register(word));
+    put_optional(&mut answer, disasm::active_register(word));
+    put_sources(&mut answer, &disasm::source_registers(word));
+    put_optional(&mut answer, disasm::memory_operand(word));
+    Record {
+        kind: b'W',
+        question: word.to_be_bytes().to_vec(),
+        answer,
+    }
+}
+
+/// 'N': an opcode by its nibble, and its fixed texts.
+pub fn nibble(byte: u8) -> Record {
+    let opcode = Opcode::from_nibble(byte);
+    let mut answer = vec![opcode_number(opcode)];
+    if let Some(opcode) = opcode {
+        put_opcode(&mut answer, opcode);
+    }
+    Record {
+        kind: b'N',
+        question: vec![byte],
+        answer,
+    }
+}
+
+/// 'A': the two lists of all opcodes and all groups.
+pub fn all() -> Record {
+    let opcodes = Opcode::ALL.iter().map(|opcode| opcode.nibble());
+    let groups = InstructionGroup::ALL
+        .iter()
+        .map(|group| group_number(*group));
+    Record {
+        kind: b'A',
+        question: Vec::new(),
+        answer: opcodes.chain(groups).collect(),
+    }
+}
+
+/// 'E': encoding from four digits, and from an opcode and three.
+pub fn encode(digits: [u8; 4]) -> Record {
+    let [opcode, x, y, z] = digits;
+    let mut answer = Instruction::from_nibbles(opcode, x, y, z)
+        .word()
+        .to_be_bytes()
+        .to_vec();
+    let new = Opcode::from_nibble(opcode).map(|opcode| Instruction::new(opcode, x, y, z));
+    answer.push(new.is_some() as u8);
+    answer.extend(new.map_or(0, Instruction::word).to_be_bytes());
+    Record {
+        kind: b'E',
+        question: digits.to_vec(),
+        answer,
+    }
+}
+
+/// 'B': the two texts of one byte.
+pub fn byte(value: u8) -> Record {
+    let mut answer = Vec::new();
+    put_text(&mut answer, &isa::format_byte(value));
+    put_text(&mut answer, &isa::register_name(value));
+    Record {
+        kind: b'B',
+        question: vec![value],
+        answer,
+    }
+}
+
+/// 'H': a number of at least so many digits. The port carries 32 at most, so
+/// the original is asked for no more.
+pub fn hex(value: u16, digits: u64) -> Record {
+    let mut answer = Vec::new();
+    put_text(
+        &mut answer,
+        &isa::format_hex(value, digits.min(TEXT as u64) as usize),
+    );
+    let question = [&value.to_be_bytes()[..], &digits.to_be_bytes()[..]].concat();
+    Record {
+        kind: b'H',
+        question,
+        answer,
+    }
+}
+
+/// 'P': a register's name. The original takes a `&str`; the port takes any
+/// bytes, and bytes that are no `&str` name no register.
+pub fn parse(text: &[u8]) -> Record {
+    let length = u8::try_from(text.len()).expect("a name's length has one byte");
+    let register = std::str::from_utf8(text).ok().and_then(isa::parse_register);
+    let mut answer = Vec::new();
+    put_optional(&mut answer, register);
+    Record {
+        kind: b'P',
+        question: [&[length], text].concat(),
+        answer,
+    }
+}
+
+/// 'L': the listing of an image.
+pub fn listing(words: &[u16]) -> Record {
+    let listing = disasm::disassemble_image(words);
+    let question = [
+        &(words.len() as u16).to_be_bytes()[..],
+        &images::bytes(words),
+    ]
+    .concat();
+    let answer = [
+        &(listing.len() as u16).to_be_bytes()[..],
+        listing.as_bytes(),
+    ]
+    .concat();
+    Record {
+        kind: b'L',
+        question,
+        answer,
+    }
+}
+
+fn put_fields(answer: &mut Vec<u8>, instruction: Instruction) {
+    let (x, y, z) = instruction.xyz();
+    answer.extend(instruction.word().to_be_bytes());
+    answer.extend([
+        instruction.opcode_nibble(),
+        opcode_number(instruction.opcode()),
+    ]);
+    answer.extend([
+        instruction.x(),
+        instruction.y(),
+        instruction.z(),
+        instruction.yz(),
+    ]);
+    answer.extend([x, y, z]);
+    answer.extend(instruction.nibbles());
+}
+
+fn put_opcode(answer: &mut Vec<u8>, opcode: Opcode) {
+    answer.push(opcode.nibble());
+    put_text(answer, opcode.mnemonic());
+    put_text(answer, opcode.encoding());
+    put_text(answer, opcode.syntax());
+    put_text(answer, opcode.cpp());
+    put_text(answer, &opcode.to_string());
+    put_padded(answer, opcode.description(), LONG_TEXT);
+    answer.push(group_number(opcode.group()));
+    put_text(answer, opcode.group().label());
+}
+
+fn put_text(answer: &mut Vec<u8>, text: &str) {
+    put_padded(answer, text, TEXT);
+}
+
+/// The text, zeros up to `width`, and the text's length.
+fn put_padded(answer: &mut Vec<u8>, text: &str, width: usize) {
+    assert!(text.len() <= width, "{text:?} is over {width} bytes");
+    let end = answer.len() + width;
+    answer.extend(text.bytes());
+    answer.resize(end, 0);
+    answer.push(text.len() as u8);
+}
+
+fn put_optional(answer: &mut Vec<u8>, value: Option<u8>) {
+    answer.extend([value.is_some() as u8, value.unwrap_or(0)]);
+}
+
+fn put_sources(answer: &mut Vec<u8>, sources: &[u8]) {
+    assert!(
+        sources.len() <= 2,
+        "an instruction has two source registers at most"
+    );
+    let at = |index: usize| sources.get(index).copied().unwrap_or(0);
+    answer.extend([sources.len() as u8, at(0), at(1)]);
+}
+
+fn opcode_number(opcode: Option<Opcode>) -> u8 {
+    opcode.map_or(0, Opcode::nibble)
+}
+
+fn group_number(group: InstructionGroup) -> u8 {
+    match group {
+        InstructionGroup::DataTransfer => 0,
+        InstructionGroup::ArithmeticLogic => 1,
+        InstructionGroup::Control => 2,
+    }
+}
