@@ -1,3 +1,4 @@
 pub mod Disassembly
 pub mod Operands
 pub mod Listing
+pub mod Examples

@@ -3,9 +3,12 @@
 // function with fourteen of them would store them all at each call.
 ghost use mathlib.Core.Path.{_≡_};
 ghost use mathlib.Core.List.{map};
-ghost use Rattle.isa.specs.Text.{ascii, text};
+ghost use lib.ListN.{length};
+ghost use Rattle.isa.specs.Text.{ascii, padded, text};
+ghost use Rattle.encoding.specs.Bytes.{written};
 ghost use Rattle.isa.specs.Format.{fillByte};
 ghost use Rattle.disasm.specs.Disassembly.{disassembleText};
+use encoding::put_bytes;
 use isa::Decoded;
 use isa::Instruction;
 use isa::Opcode;
@@ -140,28 +143,55 @@ fn unknown_text(digits: [u8; 4]) -> Text
     Text::from_bytes(&text)
 }
 
-// Disassemble one machine word. A word without an opcode becomes a ??? comment, so that a listing
-// can show every memory word without lying about what the machine would do.
-pub fn disassemble(word: u16) -> Text
-    ensures { λ r. ⌜ r ≡ text (disassembleText word) ⌝ }
+fn halt_text() -> Text
+    ensures { λ r. ⌜ r ≡ text (ascii "HALT") ⌝ }
+{
+    Text::from_bytes(b"HALT")
+}
+
+// A text's whole field of 32 bytes from index `at` on, where it fits; what is answered is the
+// length of the text.
+fn put_field(out: &mut [u8], at: usize, t: Text) -> u8
+    ensures { λ r. ⌜ (r ≡ t .len) × (now (out .exit) ≡ written (now (out .entry)) at (t .bytes)) ⌝ }
+{
+    let bytes = t.bytes;
+    put_bytes(out, at, &bytes);
+    t.len
+}
+
+// Disassemble one machine word into its field of 32 bytes from index `at` on, where that fits; what
+// is answered is the length of the text. A word without an opcode becomes a ??? comment, so that a
+// listing can show every memory word without lying about what the machine would do. Each arm writes
+// by itself: a text that is handed on first takes half as long again.
+pub fn disassemble_into(out: &mut [u8], at: usize, word: u16) -> u8
+    ensures { λ r. ⌜ (r ≡ length (disassembleText word)) × (now (out .exit) ≡ written (now (out .entry)) at (padded 32 (disassembleText word))) ⌝ }
 {
     let digits = digits_of(word);
     let Decoded::Known(opcode) = Instruction::from_word(word).opcode() else {
-        return unknown_text(digits);
+        return put_field(out, at, unknown_text(digits));
     };
     match opcode {
-        Opcode::LoadImmediate => load_immediate_text(digits),
-        Opcode::LoadRegister => load_register_text(digits),
-        Opcode::LoadMemory => load_memory_text(digits),
-        Opcode::StoreMemory => store_memory_text(digits),
-        Opcode::Add => add_text(digits),
-        Opcode::Negate => negate_text(digits),
-        Opcode::ShiftRight => shift_right_text(digits),
-        Opcode::ShiftLeft => shift_left_text(digits),
-        Opcode::And => and_text(digits),
-        Opcode::Or => or_text(digits),
-        Opcode::Xor => xor_text(digits),
-        Opcode::Jump => jump_text(digits),
-        Opcode::Halt => Text::from_bytes(b"HALT"),
+        Opcode::LoadImmediate => put_field(out, at, load_immediate_text(digits)),
+        Opcode::LoadRegister => put_field(out, at, load_register_text(digits)),
+        Opcode::LoadMemory => put_field(out, at, load_memory_text(digits)),
+        Opcode::StoreMemory => put_field(out, at, store_memory_text(digits)),
+        Opcode::Add => put_field(out, at, add_text(digits)),
+        Opcode::Negate => put_field(out, at, negate_text(digits)),
+        Opcode::ShiftRight => put_field(out, at, shift_right_text(digits)),
+        Opcode::ShiftLeft => put_field(out, at, shift_left_text(digits)),
+        Opcode::And => put_field(out, at, and_text(digits)),
+        Opcode::Or => put_field(out, at, or_text(digits)),
+        Opcode::Xor => put_field(out, at, xor_text(digits)),
+        Opcode::Jump => put_field(out, at, jump_text(digits)),
+        Opcode::Halt => put_field(out, at, halt_text()),
     }
+}
+
+// Disassemble one machine word.
+pub fn disassemble(word: u16) -> Text
+    ensures { λ r. ⌜ r ≡ text (disassembleText word) ⌝ }
+{
+    let mut bytes = [0u8; 32];
+    let len = disassemble_into(&mut bytes, 0, word);
+    Text { bytes, len }
 }

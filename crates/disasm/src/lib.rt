@@ -4,6 +4,7 @@ mod listing;
 mod operands;
 
 pub use disassembly::disassemble;
+pub use disassembly::disassemble_into;
 pub use listing::Listed;
 pub use listing::disassemble_image;
 pub use listing::list_bytes;

@@ -10,8 +10,7 @@ use lib.ListN.{length}
 use mir.Syntax.{w64}
 use mir.Val.{toZ, ofZ, SFits}
 use mir.ValLaws.{toZ-pos, toZ-ofZ}
-use Rattle.isa.specs.declared.text.Text.{Text}
-use Rattle.isa.specs.Text.{text, padded}
+use Rattle.isa.specs.Text.{padded}
 use Rattle.encoding.specs.Bytes.{over, written}
 use Rattle.encoding.proofs.Written.{written-fits}
 use Rattle.disasm.specs.Disassembly.{disassembleText}
@@ -45,14 +44,12 @@ pub no-room : (w : ℕ) (out : List ℕ) → length out < 32 → outcome (refuse
 unfolding disassembleOutcome
 no-room w out h = simp (lt-ltb (length out) 32 h)
 
-pub shown : (w : ℕ) (out : List ℕ) {t : Text} {o : List ℕ} → 32 ≤ length out → t ≡ text (disassembleText w) → o ≡ written out 0 (t .bytes)
-    → outcome (toZ w64 (t .len)) o ≡ disassembleOutcome w out
-unfolding disassembleOutcome text
-shown w out {t} {o} h e f =
+pub shown : (w : ℕ) (out : List ℕ) {n : ℕ} {o : List ℕ} → 32 ≤ length out → (n ≡ length (disassembleText w)) × (o ≡ written out 0 (padded 32 (disassembleText w)))
+    → outcome (toZ w64 n) o ≡ disassembleOutcome w out
+unfolding disassembleOutcome
+shown w out {n} {o} h e =
     let l : length (padded 32 (disassembleText w)) ≡ 32 = disassembly-padded w in
     let s : length (disassembleText w) ≤ 32 = disassembly-short w in
-    let n : t .len ≡ length (disassembleText w) = ap (λ (u : Text). u .len) e in
-    let b : t .bytes ≡ padded 32 (disassembleText w) = ap (λ (u : Text). u .bytes) e in
-    let a : toZ w64 (t .len) ≡ lengthOf (length (disassembleText w)) = rw n (length-read (omega arith)) in
-    let p : o ≡ over out 0 (padded 32 (disassembleText w)) = f ∙ rw b (written-fits out 0 (padded 32 (disassembleText w)) (omega arith)) in
+    let a : toZ w64 n ≡ lengthOf (length (disassembleText w)) = rw (e .0) (length-read (omega arith)) in
+    let p : o ≡ over out 0 (padded 32 (disassembleText w)) = e .1 ∙ written-fits out 0 (padded 32 (disassembleText w)) (omega arith) in
     (λ i. outcome (a i) (p i)) ∙ simp (le-ltb (length out) 32 h)

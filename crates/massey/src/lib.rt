@@ -3,9 +3,8 @@
 ghost use mathlib.Core.Path.{_≡_};
 ghost use Rattle.massey.specs.Calls.{outcome, disassembleOutcome, listingOutcome};
 use disasm::Listed;
-use disasm::disassemble;
+use disasm::disassemble_into;
 use disasm::list_bytes;
-use encoding::put_bytes;
 
 // The text of a word, in a field of 32 bytes.
 #[no_mangle]
@@ -15,10 +14,7 @@ pub extern "C" fn massey_disassemble(word: u16, out: &mut [u8]) -> i64
     if out.len() < 32 {
         return -5;
     }
-    let text = disassemble(word);
-    let bytes = text.bytes;
-    put_bytes(out, 0, &bytes);
-    text.len as i64
+    disassemble_into(out, 0, word) as i64
 }
 
 // The listing of an image whose words are in bytes, high byte first.

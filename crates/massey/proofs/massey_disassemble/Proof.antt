@@ -10,14 +10,8 @@ returns c =
     let s = c .before .before .args in
     no-room (s .word) (now (s .out)) (c .if1 .taken)
 
-disassemble-requires : tie.Need-disassemble-requires
-disassemble-requires c κs = search needs
-
-slice-aggregate-put-bytes : tie.Need-slice-aggregate-put-bytes
-slice-aggregate-put-bytes c = search needs
-
-put-bytes-requires : tie.Need-put-bytes-requires
-put-bytes-requires c κs = search needs
+disassemble-into-requires : tie.Need-disassemble-into-requires
+disassemble-into-requires c κs = search needs
 
 cast-result : tie.Need-cast-result
 cast-result c = search needs
@@ -27,19 +21,11 @@ same-length c = search needs
 
 returns-2 : tie.Need-returns-2
 returns-2 c =
-    let p = c .before .before .before in
-    let d = p .before .before .before .before in
-    let s = d .before .before .before .args in
-    shown (s .word) (now (s .out)) (d .before .if1 .left) (d .disassemble .ensures) (p .put-bytes .ensures)
+    let d = c .before .before in
+    let t = d .before .before in
+    let s = t .before .before .args in
+    shown (s .word) (now (s .out)) (t .if1 .left) (d .disassemble-into .ensures)
 
 pub massey-disassemble-spec : {M : Type 1} → statement M
 massey-disassemble-spec =
-    tie.close
-    (tie.spec
-    returns
-    disassemble-requires
-    slice-aggregate-put-bytes
-    put-bytes-requires
-    cast-result
-    same-length
-    returns-2)
+    tie.close (tie.spec returns disassemble-into-requires cast-result same-length returns-2)

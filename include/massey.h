@@ -1,0 +1,31 @@
+/* The calls of libmassey.a (rt staticlib massey). None lays a condition on its
+ * caller. A call answers a length where it is served, and minus the refusal's
+ * number where it is not; a refused call leaves the buffer as it was. A pointer
+ * and the number after it are one slice of bytes; an empty slice's pointer may
+ * be null. Words are 16 bits, high byte first. */
+#ifndef MASSEY_H
+#define MASSEY_H
+
+#include <stddef.h>
+#include <stdint.h>
+
+#ifdef __cplusplus
+extern "C" {
+#endif
+
+/* Writes the disassembly of word to the first 32 bytes of out, zeros behind the
+ * text, keeps the bytes past them, and answers the text's length; -5 where out
+ * has under 32 bytes. */
+int64_t massey_disassemble(uint16_t word, uint8_t *out, size_t out_len);
+
+/* Writes the listing of the image's words to the start of out, keeps the bytes
+ * past it, and answers its length, at most 11,709; -1 over 256 whole words, else
+ * -5 where out is shorter than the listing, else -6 where a byte is left over. */
+int64_t massey_listing(const uint8_t *image, size_t image_len, uint8_t *out,
+                       size_t out_len);
+
+#ifdef __cplusplus
+}
+#endif
+
+#endif
