@@ -3,16 +3,13 @@
 use Prim.Native.Nat.{ℕ, zero, suc, _+_, _-_, _≤_, _<_}
 use Prim.Native.Char.{code}
 use native.Mathlib.Omega.{arith}
-use native.Mathlib.Nat.{add-zero}
-use native.Mathlib.Numerals.{add-one}
 use mathlib.Core.Bool.{Bool, true, false, cond}
 use mathlib.Core.Path.{_≡_, refl, sym, ap, _∙_}
 use mathlib.Core.List.{List, [], _∷_, _++_, append-nil}
-use borrow.Author.Tests.{eqb-true, eqb-false, eq-eqb, ne-eqb, lt-ltb, le-ltb}
+use borrow.Author.Tests.{eqb-true, eqb-false, ne-eqb}
 use lib.Dec.{eqb, ltb, lit≤}
 use lib.ListN.{length, getD, take, set, replicate, length-append, length-replicate, length-set, getD-replicate}
-use lib.Seq.{take-suc, take-all, length-take-le, getD-set-same, getD-set-other}
-use Rattle.isa.specs.declared.opcode.Opcode.{Opcode}
+use lib.Seq.{length-take-le, getD-set-same, getD-set-other}
 use Rattle.isa.specs.declared.opcode.Opcode.the-variants.{LoadImmediate, LoadRegister, LoadMemory, StoreMemory, Add, Negate, ShiftRight, ShiftLeft, And, Or, Xor, Jump, Halt}
 use Rattle.isa.specs.declared.opcode.Decoded.{Decoded}
 use Rattle.isa.specs.declared.opcode.Decoded.the-variants.{Known, Unknown}
@@ -22,10 +19,10 @@ use Rattle.isa.specs.Opcode.{decodeNibble, digits}
 use Rattle.isa.specs.Text.{ascii, spaced, text, textOf}
 use Rattle.isa.specs.Word.{digitW, byteYZ, decodeWord, instruction}
 use Rattle.isa.specs.Format.{fill}
-use Rattle.isa.proofs.Texts.{textOf-text}
+use Rattle.isa.proofs.Texts.{textOf-text, take-replicate}
 use Rattle.isa.proofs.Fills.{length-fill, filled-whole}
 use Rattle.encoding.specs.Bytes.{over, written}
-use Rattle.encoding.proofs.Written.{over-over, written-fits, writtens-eq}
+use Rattle.encoding.proofs.Written.{over-over, writtens-eq}
 use Rattle.disasm.specs.Disassembly.{template}
 use Rattle.disasm.specs.Listing.{refers, refersTo, referenced, labelled, otherTemplate, otherText, listingTemplate, listingText, labelText, lineFront, lineBack, line, lineOf}
 
@@ -183,11 +180,6 @@ label-short true a = rw length-fill (lit≤ tt)
 label-short false a = lit≤ tt
 
 -- ---- columns
-
-take-replicate : (k n x : ℕ) → k ≤ n → take k (replicate n x) ≡ replicate k x
-take-replicate zero n x h = refl
-take-replicate (suc k) zero x h = absurd (omega arith)
-take-replicate (suc k) (suc n) x h = ap (λ (r : List ℕ). x ∷ r) (take-replicate k n x (omega arith))
 
 -- a text and the spaces behind it, from what the two calls say
 pub column : (d : List ℕ) (at width : ℕ) (t : Text) {o₁ o₂ : List ℕ} → t .len ≤ width → width ≤ 26 → at + width ≤ length d → t .len ≤ length (t .bytes)

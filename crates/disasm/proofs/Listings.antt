@@ -3,7 +3,7 @@
 use Prim.Native.Nat.{ℕ, _+_, _*_, _/_, _%_, _≤_, _<_}
 use native.Mathlib.Omega.{arith}
 use mathlib.Core.Bool.{Bool, true, false, cond}
-use mathlib.Core.Path.{_≡_, refl, sym, ap, _∙_}
+use mathlib.Core.Path.{_≡_, refl, ap, _∙_}
 use mathlib.Core.List.{List, [], _∷_, _++_}
 use borrow.Author.Tests.{eqb-true, eq-eqb, ne-eqb, lt-ltb, le-ltb, le-leb, ltb-false}
 use lib.Dec.{eqb, ltb, lit≤}
@@ -16,7 +16,7 @@ use Rattle.encoding.specs.Bytes.{over, written, eachFrom, numbers, readWords}
 use Rattle.encoding.proofs.Written.{length-over, over-over, written-fits, overs-eq, length-each}
 use Rattle.encoding.proofs.Numbers.{length-numbers}
 use Rattle.disasm.specs.declared.listing.Listed.the-variants.{Written, Refused}
-use Rattle.disasm.specs.Listing.{lineOf, decimal, wordsText, headStart, headEnd, headLength, headOf, listingOf, listingLength, Outcome, outcome, unlessRefused, listingRefusal, listingOutcome, bytesRefusal, bytesOutcome}
+use Rattle.disasm.specs.Listing.{lineOf, decimal, wordsText, headStart, headEnd, headLength, headOf, listingOf, listingLength, outcome, unlessRefused, listingOutcome, bytesOutcome}
 use Rattle.disasm.proofs.Lines.{text-length, length-line-of}
 
 -- ---- the head

@@ -2,7 +2,7 @@
 -- Assumes nothing.
 use Prim.Native.Nat.{ℕ}
 use Prim.Native.String.{String}
-use mathlib.Core.Path.{_≡_, refl, sym, ap, _∙_}
+use mathlib.Core.Path.{_≡_, refl}
 use mathlib.Core.List.{List, [], map}
 use lib.ListN.{length, getD, take}
 use Rattle.isa.specs.declared.opcode.Opcode.{Opcode}
@@ -28,10 +28,6 @@ each p h Or = h .9
 each p h Xor = h .10
 each p h Jump = h .11
 each p h Halt = h .12
-
--- the same fact thirteen times
-abbrev refls : (f g : Opcode → List ℕ) → Type 0
-refls f g = Each (λ (o : Opcode). f o ≡ g o)
 
 -- a table of the texts s, in rows of w bytes
 abbrev pub table : ℕ → (Opcode → String) → List (List ℕ)

@@ -8,10 +8,8 @@ use mathlib.Core.Logic.{_⊎_, ⊎-elim}
 use mathlib.Core.Path.{_≡_, refl, sym, ap, _∙_}
 use mathlib.Core.List.{List, [], _∷_, _++_, append-assoc}
 use borrow.Author.Tests.{ne-eqb}
-use lib.ListN.{length, getD, take, set, replicate, length-append, length-replicate, length-take}
+use lib.ListN.{length, getD, take, set, replicate, length-append, length-replicate}
 use lib.Seq.{take-append-seam, set-append-seam, take-suc, take-all, length-take-le}
-use Rattle.isa.specs.declared.text.Text.{Text}
-use Rattle.isa.specs.declared.text.LongText.{LongText}
 use Rattle.isa.specs.Text.{padded, text, longText, textOf, trimmed, unlessSpace}
 
 pub textOf-text : (xs : List ℕ) → textOf (text xs) ≡ xs

@@ -1,6 +1,6 @@
 -- Numbers and registers as texts (isa.rs, `format_word` to `binary_grouped`), and templates for texts.
 -- Assumes nothing.
-use Prim.Native.Nat.{ℕ, _+_, _-_, _*_, _/_, _%_, max, min}
+use Prim.Native.Nat.{ℕ, _+_, _-_, _/_, _%_, max, min}
 use Prim.Native.Char.{code}
 use mathlib.Core.Bool.{cond}
 use mathlib.Core.List.{List, [], _∷_, _++_, map}

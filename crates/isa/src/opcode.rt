@@ -1,6 +1,5 @@
 // Opcodes, what is fixed about each, and their groups.
 ghost use mathlib.Core.Path.{_≡_};
-ghost use mathlib.Core.List.{[], _∷_};
 ghost use Prim.Native.Nat.{_%_, _<_};
 ghost use Rattle.isa.specs.Text.{ascii, text, longText};
 ghost use Rattle.isa.specs.Opcode.{opcodes, decodeNibble, nibbleOf, indexOf, mnemonicOf, encodingOf, syntaxOf, descriptionOf, cppOf, nameOf, groupOf, groups, labelOf};

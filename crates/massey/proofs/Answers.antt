@@ -2,10 +2,10 @@
 -- Assumes nothing.
 use Prim.Native.Nat.{ℕ, zero, suc, _≤_, _<_}
 use native.Mathlib.Omega.{arith}
-use mathlib.Core.Path.{_≡_, refl, sym, ap, _∙_}
+use mathlib.Core.Path.{_≡_, _∙_}
 use mathlib.Core.List.{List}
 use borrow.Author.Tests.{lt-ltb, le-ltb}
-use lib.IntN.{ℤ, pos, negℤ, _-ℤ_, +ℤ-idl}
+use lib.IntN.{pos, negℤ, _-ℤ_, +ℤ-idl}
 use lib.ListN.{length}
 use mir.Syntax.{w64}
 use mir.Val.{toZ, ofZ, SFits}
@@ -15,7 +15,7 @@ use Rattle.encoding.specs.Bytes.{over, written}
 use Rattle.encoding.proofs.Written.{written-fits}
 use Rattle.disasm.specs.Disassembly.{disassembleText}
 use Rattle.disasm.proofs.Texts.{disassembly-short, disassembly-padded}
-use Rattle.massey.specs.Calls.{Outcome, outcome, lengthOf, refused, disassembleOutcome}
+use Rattle.massey.specs.Calls.{outcome, lengthOf, refused, disassembleOutcome}
 
 -- ---- lengths and refusals as signed numbers
 

@@ -12,7 +12,6 @@ use Rattle.disasm.specs.Disassembly.{disassembleText}
 use Rattle.disasm.specs.Listing.{bytesOutcome}
 use Rattle.disasm.specs.declared.listing.Listed.{Listed}
 use Rattle.disasm.specs.declared.listing.Listed.the-variants.{Written, Refused}
-use Rattle.disasm.specs.Listing as listing
 
 -- what a call answers, and the buffer that it leaves
 pub record Outcome : Type 0 where

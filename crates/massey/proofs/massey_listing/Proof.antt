@@ -1,9 +1,8 @@
 -- Assumes nothing.
-use Prim.Native.Nat.{ℕ, _≤_}
+use Prim.Native.Nat.{_≤_}
 use native.Mathlib.Omega.{arith}
-use mathlib.Core.Path.{_≡_, sym, ap, _∙_}
+use mathlib.Core.Path.{sym, ap, _∙_}
 use denote.Ref.{now}
-use Rattle.disasm.specs.declared.listing.Listed.{Listed}
 use Rattle.disasm.specs.Listing as listing
 use Rattle.disasm.proofs.Listings.{bytes-at-most}
 use Rattle.massey.specs.Calls.{outcome, listedNumber, listingOutcome}

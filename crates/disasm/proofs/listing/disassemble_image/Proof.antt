@@ -1,5 +1,4 @@
 -- Assumes nothing.
-use native.Mathlib.Omega.{arith}
 use denote.Ref.{now}
 use Rattle.disasm.proofs.Listings.{refused-1, refused-5, whole}
 use borrow.Author.Needs.{needs}

@@ -1,8 +1,6 @@
 -- Assumes nothing.
-use Prim.Native.Nat.{ℕ}
 use mathlib.Core.Bool.{Bool, true, false}
 use mathlib.Core.Path.{_≡_, sym, ap, _∙_}
-use borrow.Author.Tests.{lt-ltb, le-ltb}
 use lib.Dec.{ltb}
 use Rattle.isa.specs.declared.opcode.Opcode.the-variants.{LoadMemory, StoreMemory, Jump}
 use Rattle.isa.specs.declared.opcode.Decoded.{Decoded}
@@ -12,7 +10,7 @@ use lib.ListN.{take}
 use Rattle.isa.specs.declared.text.Text.{Text}
 use Rattle.isa.specs.Text.{ascii, text}
 use Rattle.isa.specs.Format.{fill}
-use Rattle.isa.specs.Word.{digitW, byteYZ, decodeWord}
+use Rattle.isa.specs.Word.{digitW, byteYZ}
 use Rattle.disasm.specs.Listing.{listingTemplate, listingText}
 use Rattle.disasm.proofs.Lines.{read-off, listed, other-listed}
 use borrow.Author.Needs.{needs}

@@ -1,12 +1,6 @@
 -- Assumes nothing.
-use Prim.Native.Nat.{ℕ}
-use mathlib.Core.Bool.{Bool, true, false}
-use mathlib.Core.List.{List}
-use mathlib.Core.Path.{_≡_, sym, ap, _∙_}
-use lib.ListN.{set}
-use denote.Ref.{now}
+use mathlib.Core.Path.{_≡_}
 use Rattle.isa.specs.Word.{byteYZ, decodeWord}
-use Rattle.disasm.specs.Listing.{refers}
 use Rattle.disasm.proofs.Lines.{read-off}
 use borrow.Author.Needs.{needs}
 use Rattle.disasm.proofs.listing.note.Statement.{statement}

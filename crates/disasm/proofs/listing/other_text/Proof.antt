@@ -1,12 +1,10 @@
 -- Assumes nothing.
-use mathlib.Core.Path.{_≡_, sym, ap, _∙_}
+use mathlib.Core.Path.{_∙_}
 use lib.Dec.{lit≤}
-use Rattle.isa.specs.Text.{ascii, text}
-use Rattle.isa.specs.Word.{decodeWord}
-use Rattle.isa.specs.Format.{fill}
-use Rattle.isa.specs.declared.opcode.Decoded.the-variants.{Known, Unknown}
+use Rattle.isa.specs.Text.{ascii}
+use Rattle.isa.specs.declared.opcode.Decoded.the-variants.{Unknown}
 use Rattle.isa.proofs.Fills.{filled-whole}
-use Rattle.disasm.specs.Disassembly.{template, disassembleText}
+use Rattle.disasm.specs.Disassembly.{disassembleText}
 use Rattle.disasm.specs.Listing.{otherTemplate}
 use Rattle.disasm.proofs.Texts.{decodes}
 use Rattle.disasm.proofs.Lines.{othered}

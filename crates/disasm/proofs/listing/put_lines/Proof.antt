@@ -3,13 +3,13 @@
 use Prim.Native.Nat.{_+_, _*_, _-_, _≤_}
 use native.Mathlib.Nat.{add-zero, sub-zero}
 use native.Mathlib.Omega.{arith}
-use mathlib.Core.Path.{_≡_, refl, sym, ap, _∙_}
-use lib.ListN.{length, getD}
+use mathlib.Core.Path.{_≡_, refl, sym, _∙_}
+use lib.ListN.{length}
 use denote.Ref.{now}
 use borrow.Author.Needs.{needs}
 use Rattle.encoding.specs.Bytes.{over, eachFrom}
 use Rattle.encoding.proofs.Written.{each-turn, each-done}
-use Rattle.disasm.specs.Listing.{line, lineOf}
+use Rattle.disasm.specs.Listing.{lineOf}
 use Rattle.disasm.proofs.Lines.{line-of, length-line-of}
 use Rattle.disasm.proofs.listing.put_lines.Statement.{statement}
 use Rattle.disasm.proofs.listing.put_lines.Tie as tie

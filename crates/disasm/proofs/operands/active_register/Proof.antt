@@ -1,7 +1,5 @@
 -- Assumes nothing.
-use mathlib.Core.Path.{sym, _∙_}
-use Rattle.isa.specs.declared.digits.ByteOption.{ByteOption}
-use Rattle.disasm.specs.Operands.{activeRegister, orElse, readRegister}
+use Rattle.disasm.specs.Operands.{activeRegister}
 use borrow.Author.Needs.{needs}
 use Rattle.disasm.proofs.operands.active_register.Statement.{statement}
 use Rattle.disasm.proofs.operands.active_register.Tie as tie

@@ -1,5 +1,5 @@
 -- Assumes nothing.
-use mathlib.Core.Path.{refl, _∙_}
+use mathlib.Core.Path.{_∙_}
 use Rattle.isa.specs.Format.{binaryGrouped}
 use borrow.Author.Needs.{needs}
 use Rattle.isa.proofs.digits.binary_grouped.Statement.{statement}

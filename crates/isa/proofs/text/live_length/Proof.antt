@@ -1,9 +1,9 @@
 -- The invariant: the first n bytes are the first i without the spaces at their end.
 -- Assumes nothing.
-use Prim.Native.Nat.{ℕ, _-_, _≤_}
+use Prim.Native.Nat.{_-_, _≤_}
 use native.Mathlib.Omega.{arith}
 use mathlib.Core.Logic.{⊎-elim}
-use mathlib.Core.Path.{_≡_, refl, ap, _∙_, sym}
+use mathlib.Core.Path.{_≡_, refl, ap, _∙_}
 use lib.ListN.{length, take}
 use lib.Seq.{take-all}
 use denote.Ref.{now}
@@ -11,8 +11,6 @@ use Rattle.isa.specs.Text.{trimmed}
 use Rattle.isa.proofs.Texts.{trim-other, trim-space}
 use Rattle.isa.proofs.text.live_length.Statement.{statement}
 use Rattle.isa.proofs.text.live_length.Tie as tie
-use Rattle.isa.proofs.text.live_length.Reads as reads
-use Rattle.isa.proofs.text.live_length.Lts as lts
 
 abbrev Inv-loop : tie.InvT-loop
 Inv-loop s n₀ i₀ n i = (take n s ≡ trimmed (take i s)) × (n ≤ i) × (i ≤ length s)
