@@ -7,7 +7,7 @@ mod places;
 use std::{env, fs, path::PathBuf};
 
 /// The files of the original that the port has reached.
-const MODULES: [&str; 2] = ["isa", "disasm"];
+const MODULES: [&str; 3] = ["isa", "disasm", "vm"];
 
 fn main() {
     let source =

@@ -6,7 +6,11 @@ include!(concat!(env!("OUT_DIR"), "/original.rs"));
 
 pub mod images;
 pub mod lists;
+pub mod machines;
 pub mod places;
 pub mod random;
 pub mod record;
+pub mod replays;
 pub mod sample;
+pub mod tick_lists;
+pub mod ticks;

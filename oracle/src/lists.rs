@@ -1,5 +1,5 @@
-//! The two lists of records: the fixed one, small enough to be kept, and the
-//! full one, which is made when it is needed.
+//! The two lists of `replay_disasm`: the fixed one, small enough to be kept,
+//! and the full one, which is made when it is needed.
 
 use crate::images;
 use crate::random::Random;
@@ -93,9 +93,26 @@ pub fn full() -> Vec<Record> {
     records
 }
 
+/// One record of each kind, and of 'N' and 'P' with either answer.
+pub fn samples() -> Vec<Record> {
+    vec![
+        record::word(0x5123),
+        record::word(0xE000),
+        record::nibble(0x0D),
+        record::nibble(0x05),
+        record::all(),
+        record::encode([1, 2, 3, 4]),
+        record::byte(0x2A),
+        record::hex(0xFF, 4),
+        record::parse(b"RA"),
+        record::parse(b"R10"),
+        record::listing(&[0x3101, 0xE000]),
+    ]
+}
+
 /// For each opcode nibble, every pair of edges at every two of x, y and z, and
 /// a dozen words by chance.
-fn edge_words(random: &mut Random) -> Vec<u16> {
+pub(crate) fn edge_words(random: &mut Random) -> Vec<u16> {
     let mut words = Vec::new();
     for opcode in 0..16u16 {
         for (i, x) in EDGES.iter().enumerate() {

@@ -1,12 +1,12 @@
-//! One question and the original's answer to it, in the form that the program
-//! `replay_disasm` reads: length 2 (of what follows), kind 1, question, answer.
-//! Numbers are high byte first.
+//! One question and the original's answer to it, in the form that the replay
+//! programs read: length 2 (of what follows), kind 1, question, answer. Numbers
+//! are high byte first. Here are the records of `replay_disasm`.
 
 use crate::disasm;
 use crate::images;
 use crate::isa::{self, Instruction, InstructionGroup, Opcode};
 
-/// Every kind of record.
+/// Every kind of these records.
 pub const KINDS: [u8; 8] = *b"WNAEBHPL";
 
 /// The longest text that the port carries, and so the most digits.
@@ -195,7 +195,7 @@ fn put_opcode(answer: &mut Vec<u8>, opcode: Opcode) {
     put_text(answer, opcode.group().label());
 }
 
-fn put_text(answer: &mut Vec<u8>, text: &str) {
+pub(crate) fn put_text(answer: &mut Vec<u8>, text: &str) {
     put_padded(answer, text, TEXT);
 }
 

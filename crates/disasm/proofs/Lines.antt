@@ -13,11 +13,10 @@ use lib.Seq.{length-take-le, getD-set-same, getD-set-other}
 use Rattle.isa.specs.declared.opcode.Opcode.the-variants.{LoadImmediate, LoadRegister, LoadMemory, StoreMemory, Add, Negate, ShiftRight, ShiftLeft, And, Or, Xor, Jump, Halt}
 use Rattle.isa.specs.declared.opcode.Decoded.{Decoded}
 use Rattle.isa.specs.declared.opcode.Decoded.the-variants.{Known, Unknown}
-use Rattle.isa.specs.declared.instruction.Instruction.{Instruction}
 use Rattle.isa.specs.declared.text.Text.{Text}
 use Rattle.isa.specs.Opcode.{decodeNibble, digits}
 use Rattle.isa.specs.Text.{ascii, spaced, text, textOf}
-use Rattle.isa.specs.Word.{digitW, byteYZ, decodeWord, instruction}
+use Rattle.isa.specs.Word.{digitW, byteYZ, decodeWord}
 use Rattle.isa.specs.Format.{fill}
 use Rattle.isa.proofs.Texts.{textOf-text, take-replicate}
 use Rattle.isa.proofs.Fills.{length-fill, filled-whole}
@@ -25,12 +24,6 @@ use Rattle.encoding.specs.Bytes.{over, written}
 use Rattle.encoding.proofs.Written.{over-over, writtens-eq}
 use Rattle.disasm.specs.Disassembly.{template}
 use Rattle.disasm.specs.Listing.{refers, refersTo, referenced, labelled, otherTemplate, otherText, listingTemplate, listingText, labelText, lineFront, lineBack, line, lineOf}
-
--- ---- what is read off a word by way of the struct that wraps it
-
--- a number or a test of the word
-pub read-off : {A : Type 0} (f : ℕ → A) (w : ℕ) {i : Instruction} {x : A} → i ≡ instruction w → x ≡ f (i .raw) → f w ≡ x
-read-off f w e g = ap (λ (j : Instruction). f (j .raw)) (sym e) ∙ sym g
 
 -- ---- labels
 

@@ -1,5 +1,6 @@
--- `Texts` has the laws of `specs/Text.antt`, `Fills` those of templates, `Tables` those of tables
--- with a row for each opcode.
+-- `Texts` has the laws of `specs/Text.antt`, `Words` those of words and their struct, `Fills` those of
+-- templates, `Tables` those of tables with a row for each opcode.
 pub mod Texts
+pub mod Words
 pub mod Fills
 pub mod Tables

@@ -1,10 +1,10 @@
 // Records of kind 'L': the listing of an image, in a buffer with room to spare, and the refusal of
 // one that is a byte too short. The listing has its own length, so it is compared where it lies.
-use crate::record::word_at;
 use check::same;
 use disasm::Listed;
 use disasm::disassemble_image;
 use encoding::get_words;
+use replay::word_at;
 
 // More than the longest listing, of 256 words, takes: 11,709 bytes.
 const ROOM: usize = 12000;

@@ -9,7 +9,7 @@ mod word;
 
 use libc::STDIN_FILENO;
 use libc::STDOUT_FILENO;
-use record::word_at;
+use replay::word_at;
 
 // What became of the next record: `End` where the list has no more.
 enum Verdict {

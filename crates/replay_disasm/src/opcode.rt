@@ -1,9 +1,6 @@
 // Records of kinds 'N', 'A' and 'E': opcodes, their lists, and encoding.
-use crate::record::byte_at;
 use crate::record::group_number;
 use crate::record::opcode_number;
-use crate::record::put_long_text;
-use crate::record::put_text;
 use check::same;
 use encoding::put_bytes;
 use encoding::put_number;
@@ -11,6 +8,9 @@ use isa::Decoded;
 use isa::Instruction;
 use isa::InstructionGroup;
 use isa::Opcode;
+use replay::byte_at;
+use replay::put_long_text;
+use replay::put_text;
 
 // An opcode's short texts.
 fn put_texts(out: &mut [u8], opcode: Opcode) {

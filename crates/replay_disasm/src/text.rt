@@ -1,8 +1,5 @@
 // Records of kinds 'B', 'H' and 'P': numbers and registers as texts.
-use crate::record::byte_at;
 use crate::record::option_bytes;
-use crate::record::put_text;
-use crate::record::word_at;
 use check::same;
 use encoding::get_number;
 use encoding::put_bytes;
@@ -11,6 +8,9 @@ use isa::format_byte;
 use isa::format_hex;
 use isa::parse_register;
 use isa::register_name;
+use replay::byte_at;
+use replay::put_text;
+use replay::word_at;
 
 // 'B': the two texts of one byte.
 pub(crate) fn byte_passes(record: &[u8]) -> bool {

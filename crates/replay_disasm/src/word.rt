@@ -1,8 +1,6 @@
 // Records of kind 'W': all that the port says of one word.
 use crate::record::opcode_number;
 use crate::record::put_option;
-use crate::record::put_text;
-use crate::record::word_at;
 use check::same;
 use disasm::active_register;
 use disasm::disassemble;
@@ -16,6 +14,8 @@ use isa::Instruction;
 use isa::binary_grouped;
 use isa::format_word;
 use isa::to_signed;
+use replay::put_text;
+use replay::word_at;
 
 // The word's digits, one by one and together.
 fn put_digits(out: &mut [u8], word: u16) {

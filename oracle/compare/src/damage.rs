@@ -3,38 +3,38 @@
 
 use crate::replay::{self, Counts};
 use crate::tally::Tally;
-use oracle::lists;
 use oracle::random::Random;
-use oracle::record::{self, framed, Record, KINDS};
+use oracle::record::{self, framed, Record};
+use oracle::replays::Replay;
 
 /// Records damaged at one byte each, of every kind.
 const DAMAGED: usize = 200;
 /// An answer that is short enough to damage each of its bytes in turn.
 const SHORT: usize = 400;
 
-pub fn compare(tally: &mut Tally) {
+pub fn compare(tally: &mut Tally, replay: &Replay) {
     let mut random = Random::new(0xDA_3A6E);
-    let records = lists::full();
-    for kind in KINDS {
+    let records = (replay.full)();
+    for kind in replay.kinds {
         let pool: Vec<&Record> = records
             .iter()
-            .filter(|record| record.kind == kind)
+            .filter(|record| record.kind == *kind)
             .collect();
-        damaged_answers(tally, &mut random, kind, &pool);
+        damaged_answers(tally, replay, &mut random, &pool);
         let short: Vec<&Record> = pool
             .into_iter()
             .filter(|record| record.answer.len() <= SHORT)
             .collect();
-        damaged_everywhere(tally, &mut random, kind, &short);
+        damaged_everywhere(tally, replay, &mut random, &short);
         let last = random.pick(&short);
-        cut_everywhere(tally, last);
+        cut_everywhere(tally, replay, last);
     }
-    cut_large(tally, &mut random);
-    malformed_between_good(tally);
+    cut_large(tally, replay, &mut random);
+    malformed_between_good(tally, replay);
 }
 
 /// One byte of each answer is changed: none may pass.
-fn damaged_answers(tally: &mut Tally, random: &mut Random, kind: u8, pool: &[&Record]) {
+fn damaged_answers(tally: &mut Tally, replay: &Replay, random: &mut Random, pool: &[&Record]) {
     let damaged: Vec<Record> = (0..DAMAGED)
         .map(|_| {
             let record = random.pick(pool);
@@ -42,17 +42,17 @@ fn damaged_answers(tally: &mut Tally, random: &mut Random, kind: u8, pool: &[&Re
             damage(random, record, at)
         })
         .collect();
-    all_fail(tally, kind, &damaged);
+    all_fail(tally, replay, &damaged);
 }
 
 /// Every byte of a few answers is changed in turn, so that none is unread.
-fn damaged_everywhere(tally: &mut Tally, random: &mut Random, kind: u8, pool: &[&Record]) {
+fn damaged_everywhere(tally: &mut Tally, replay: &Replay, random: &mut Random, pool: &[&Record]) {
     for _ in 0..4 {
         let record = random.pick(pool);
         let damaged: Vec<Record> = (0..record.answer.len())
             .map(|at| damage(random, record, at))
             .collect();
-        all_fail(tally, kind, &damaged);
+        all_fail(tally, replay, &damaged);
     }
 }
 
@@ -63,8 +63,8 @@ fn damage(random: &mut Random, record: &Record, at: usize) -> Record {
 }
 
 /// Each record is one comparison, passed where the program says 'failed'.
-fn all_fail(tally: &mut Tally, kind: u8, damaged: &[Record]) {
-    let counted = replay::replay(&record::list_bytes(damaged));
+fn all_fail(tally: &mut Tally, replay: &Replay, damaged: &[Record]) {
+    let counted = replay::run(replay, &record::list_bytes(damaged));
     let wanted = Counts {
         passed: 0,
         failed: damaged.len() as u64,
@@ -73,17 +73,18 @@ fn all_fail(tally: &mut Tally, kind: u8, damaged: &[Record]) {
         tally.add(wanted.failed, 0);
     } else {
         tally.add(0, wanted.failed);
-        tally.show(|| format!("damaged {:?}: {counted:?}, not {wanted:?}", kind as char));
+        let kind = damaged[0].kind as char;
+        tally.show(|| format!("damaged {kind:?}: {counted:?}, not {wanted:?}"));
     }
 }
 
 /// A list that ends at each byte of its last record: the rest fails as one.
-fn cut_everywhere(tally: &mut Tally, last: &Record) {
-    let whole = record::list_bytes(&[record::word(0x6123), record::byte(0x2A)]);
+fn cut_everywhere(tally: &mut Tally, replay: &Replay, last: &Record) {
+    let whole = record::list_bytes(&(replay.samples)()[..2]);
     let last = last.bytes();
     for cut in 0..last.len() {
         let list = [&whole[..], &last[..cut]].concat();
-        counts_as(tally, &list, 2, (cut > 0) as u64, || {
+        counts_as(tally, replay, &list, 2, (cut > 0) as u64, || {
             format!("two records and {cut} bytes of {} of a third", last.len())
         });
     }
@@ -91,26 +92,31 @@ fn cut_everywhere(tally: &mut Tally, last: &Record) {
 
 /// Cuts far inside a long list, where a reader's buffer may end too; and a
 /// list with nothing in it.
-fn cut_large(tally: &mut Tally, random: &mut Random) {
-    let words: Vec<Record> = (0..3_000).map(record::word).collect();
-    let list = record::list_bytes(&words);
-    let each = words[0].bytes().len();
+fn cut_large(tally: &mut Tally, replay: &Replay, random: &mut Random) {
+    let mut list = Vec::new();
+    let mut ends = vec![0];
+    for record in (replay.fixed)() {
+        list.extend(record.bytes());
+        ends.push(list.len());
+    }
     let by_chance = (0..20).map(|_| random.below(list.len()));
     for at in by_chance.chain([0, 4_096, 8_192, 65_536, 131_072]) {
-        let (passed, failed) = (at / each, (at % each > 0) as u64);
-        counts_as(tally, &list[..at], passed as u64, failed, || {
+        let passed = ends.iter().filter(|end| **end <= at).count() - 1;
+        let failed = (ends[passed] < at) as u64;
+        counts_as(tally, replay, &list[..at], passed as u64, failed, || {
             format!("{at} bytes of a list")
         });
     }
 }
 
 /// Each malformed record fails alone, and the good one behind it passes.
-fn malformed_between_good(tally: &mut Tally) {
-    let good = record::listing(&[0x3102, 0xD101, 0x4FFF]).bytes();
-    let malformed = malformed();
+fn malformed_between_good(tally: &mut Tally, replay: &Replay) {
+    let samples = (replay.samples)();
+    let good = samples[samples.len() - 1].bytes();
+    let malformed = malformed(replay.kinds, &samples);
     for (name, body) in &malformed {
         let list = [&good[..], &framed(body), &good].concat();
-        counts_as(tally, &list, 2, 1, || {
+        counts_as(tally, replay, &list, 2, 1, || {
             format!("{name}: {} bytes between good ones", body.len())
         });
     }
@@ -119,41 +125,22 @@ fn malformed_between_good(tally: &mut Tally) {
         .flat_map(|(_, body)| [framed(body), good.clone()].concat())
         .collect();
     let count = malformed.len() as u64;
-    counts_as(tally, &together, count, count, || {
+    counts_as(tally, replay, &together, count, count, || {
         "all malformed records in one list".into()
     });
 }
 
 /// Records of no known kind, or of a length that is not their kind's.
-fn malformed() -> Vec<(String, Vec<u8>)> {
+fn malformed(kinds: &[u8], samples: &[Record]) -> Vec<(String, Vec<u8>)> {
     let mut malformed = vec![("no kind".to_string(), Vec::new())];
-    for kind in (0..=255).filter(|kind| !KINDS.contains(kind)) {
+    for kind in (0..=255).filter(|kind| !kinds.contains(kind)) {
         let name = format!("unknown kind {kind:02X}");
         malformed.push((name.clone(), vec![kind]));
-        malformed.push((name, [&[kind], &body(&record::word(0x1234))[1..]].concat()));
+        malformed.push((name, [&[kind], &body(&samples[0])[1..]].concat()));
     }
     malformed.push(("unknown kind, longest".into(), vec![b'?'; 65_535]));
-    for record in samples() {
-        malformed.extend(wrong_lengths(&record));
-    }
+    malformed.extend(samples.iter().flat_map(wrong_lengths));
     malformed
-}
-
-/// One record of each kind, and of 'N' and 'P' with either answer.
-fn samples() -> [Record; 11] {
-    [
-        record::word(0x5123),
-        record::word(0xE000),
-        record::nibble(0x0D),
-        record::nibble(0x05),
-        record::all(),
-        record::encode([1, 2, 3, 4]),
-        record::byte(0x2A),
-        record::hex(0xFF, 4),
-        record::parse(b"RA"),
-        record::parse(b"R10"),
-        record::listing(&[0x3101, 0xE000]),
-    ]
 }
 
 fn wrong_lengths(record: &Record) -> Vec<(String, Vec<u8>)> {
@@ -197,14 +184,19 @@ fn body(record: &Record) -> Vec<u8> {
 
 fn counts_as(
     tally: &mut Tally,
+    replay: &Replay,
     list: &[u8],
     passed: u64,
     failed: u64,
     what: impl FnOnce() -> String,
 ) {
-    let counted = replay::replay(list);
+    let counted = replay::run(replay, list);
     let wanted = Counts { passed, failed };
     tally.check(counted == Ok(wanted), || {
-        format!("{}: {counted:?}, not {wanted:?}", what())
+        format!(
+            "{}, {}: {counted:?}, not {wanted:?}",
+            replay.program,
+            what()
+        )
     });
 }

@@ -11,27 +11,28 @@ mod replay;
 mod tally;
 mod words;
 
+use oracle::replays::REPLAYS;
 use std::process::ExitCode;
 use tally::Tally;
 
-type Part = (&'static str, fn(&mut Tally));
-
-const PARTS: [Part; 5] = [
-    ("archive, words", words::compare),
-    ("archive, listings", listings::compare),
-    ("replay, full list", replay::compare),
-    ("replay, damaged lists", damage::compare),
-    ("listing program, pipes", pipes::compare),
-];
-
 fn main() -> ExitCode {
     let mut total = Tally::default();
-    for (name, compare) in PARTS {
+    let mut part = |name: &str, compare: &dyn Fn(&mut Tally)| {
         let mut tally = Tally::default();
         compare(&mut tally);
         println!("{name}: {tally}");
         total.add(tally.passed(), tally.failed());
+    };
+    part("archive, words", &words::compare);
+    part("archive, listings", &listings::compare);
+    for replay in &REPLAYS {
+        let name = |list: &str| format!("{}, {list}", replay.program);
+        part(&name("full list"), &|tally| replay::compare(tally, replay));
+        part(&name("damaged lists"), &|tally| {
+            damage::compare(tally, replay)
+        });
     }
+    part("listing program, pipes", &pipes::compare);
     println!("{total}");
     if total.failed() == 0 {
         ExitCode::SUCCESS

@@ -1,10 +1,10 @@
-//! The full list through the program `replay_disasm`.
+//! The full list of a replay program, through that program.
 
 use crate::difference;
 use crate::program;
 use crate::tally::{Tally, SHOWN};
-use oracle::lists;
 use oracle::record::{self, Record};
+use oracle::replays::Replay;
 use std::io::Write;
 
 /// What the program says it counted.
@@ -14,9 +14,9 @@ pub struct Counts {
     pub failed: u64,
 }
 
-pub fn compare(tally: &mut Tally) {
-    let records = lists::full();
-    let counted = replay(&record::list_bytes(&records));
+pub fn compare(tally: &mut Tally, replay: &Replay) {
+    let records = (replay.full)();
+    let counted = run(replay, &record::list_bytes(&records));
     if let Ok(counts) = counted {
         tally.add(counts.passed, counts.failed);
     }
@@ -26,17 +26,17 @@ pub fn compare(tally: &mut Tally) {
         format!("{} records sent: {counted:?}", records.len())
     });
     if counted.is_ok_and(|counts| counts.failed > 0) {
-        for failing in failing(&records, SHOWN as usize) {
+        for failing in failing(replay, &records, SHOWN as usize) {
             tally.show(|| describe(failing));
         }
     }
 }
 
 /// Runs the program over a list.
-pub fn replay(list: &[u8]) -> Result<Counts, String> {
-    let output = program::run("replay_disasm", |input| input.write_all(list))?;
+pub fn run(replay: &Replay, list: &[u8]) -> Result<Counts, String> {
+    let output = program::run(replay.program, |input| input.write_all(list))?;
     let text = String::from_utf8_lossy(&output);
-    counts(&text).ok_or_else(|| format!("replay_disasm wrote {text:?}"))
+    counts(&text).ok_or_else(|| format!("{} wrote {text:?}", replay.program))
 }
 
 /// Reads 'N passed, M failed' and a line feed, and nothing else.
@@ -52,17 +52,17 @@ fn counts(text: &str) -> Option<Counts> {
 
 /// The first few records that fail. The program does not name them, so halves
 /// of the list are replayed until single records are left.
-fn failing(records: &[Record], limit: usize) -> Vec<&Record> {
+fn failing<'a>(replay: &Replay, records: &'a [Record], limit: usize) -> Vec<&'a Record> {
     let fails = |counts: Counts| counts.failed > 0;
-    if limit == 0 || !replay(&record::list_bytes(records)).is_ok_and(fails) {
+    if limit == 0 || !run(replay, &record::list_bytes(records)).is_ok_and(fails) {
         return Vec::new();
     }
     if let [single] = records {
         return vec![single];
     }
     let (left, right) = records.split_at(records.len() / 2);
-    let mut found = failing(left, limit);
-    found.extend(failing(right, limit - found.len()));
+    let mut found = failing(replay, left, limit);
+    found.extend(failing(replay, right, limit - found.len()));
     found
 }
 

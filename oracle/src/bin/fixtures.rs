@@ -1,13 +1,14 @@
-//! Writes the fixed list and the line that replaying it must print, and the
+//! Writes the fixed lists and the lines that replaying them must print, and the
 //! sample image with its listing; or prints a list.
 
-use oracle::{lists, places, record, sample};
+use oracle::replays::{Replay, REPLAYS};
+use oracle::{places, record, sample};
 use std::io::Write;
 use std::path::{Path, PathBuf};
 use std::process::ExitCode;
 use std::{env, fs, io};
 
-const USAGE: &str = "usage: fixtures [--to FOLDER | --list FIXED | --list FULL]";
+const USAGE: &str = "usage: fixtures [--to FOLDER | --list PROGRAM FIXED | --list PROGRAM FULL]";
 
 fn main() -> ExitCode {
     let arguments: Vec<String> = env::args().skip(1).collect();
@@ -15,8 +16,8 @@ fn main() -> ExitCode {
     let done = match arguments[..] {
         [] => write(&places::root().join("crates")),
         ["--to", folder] => write(&PathBuf::from(folder)),
-        ["--list", "FIXED"] => print(&lists::fixed()),
-        ["--list", "FULL"] => print(&lists::full()),
+        ["--list", program, "FIXED"] => print(program, |replay| replay.fixed),
+        ["--list", program, "FULL"] => print(program, |replay| replay.full),
         _ => Err(io::Error::other(USAGE)),
     };
     match done {
@@ -30,13 +31,12 @@ fn main() -> ExitCode {
 
 /// What each program of `crates` reads, and what it must print.
 fn write(crates: &Path) -> io::Result<()> {
-    let records = lists::fixed();
-    let line = format!("{} passed, 0 failed\n", records.len());
-    write_program(
-        &crates.join("replay_disasm"),
-        &record::list_bytes(&records),
-        &line,
-    )?;
+    for replay in &REPLAYS {
+        let records = (replay.fixed)();
+        let line = format!("{} passed, 0 failed\n", records.len());
+        let list = record::list_bytes(&records);
+        write_program(&crates.join(replay.program), &list, &line)?;
+    }
     write_program(
         &crates.join("massey_listing"),
         &sample::image(),
@@ -52,6 +52,8 @@ fn write_program(folder: &Path, stdin: &[u8], stdout: &str) -> io::Result<()> {
     Ok(())
 }
 
-fn print(records: &[record::Record]) -> io::Result<()> {
-    io::stdout().lock().write_all(&record::list_bytes(records))
+fn print(program: &str, list: fn(&Replay) -> fn() -> Vec<record::Record>) -> io::Result<()> {
+    let replay = REPLAYS.iter().find(|replay| replay.program == program);
+    let records = list(replay.ok_or_else(|| io::Error::other(USAGE))?)();
+    io::stdout().lock().write_all(&record::list_bytes(&records))
 }

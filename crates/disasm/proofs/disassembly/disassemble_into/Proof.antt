@@ -8,8 +8,9 @@ use Rattle.isa.specs.declared.opcode.Decoded.the-variants.{Known, Unknown}
 use Rattle.isa.specs.declared.text.Text.{Text}
 use Rattle.isa.specs.Text.{ascii, text}
 use Rattle.isa.specs.Format.{fillByte}
+use Rattle.isa.proofs.Words.{decodes}
 use Rattle.disasm.specs.Disassembly.{template, disassembleText}
-use Rattle.disasm.proofs.Texts.{decodes, texted, fielded}
+use Rattle.disasm.proofs.Texts.{texted, fielded}
 use borrow.Author.Needs.{needs}
 use Rattle.disasm.proofs.disassembly.disassemble_into.Statement.{statement}
 use Rattle.disasm.proofs.disassembly.disassemble_into.Tie as tie

@@ -11,8 +11,9 @@ use Rattle.isa.specs.declared.text.Text.{Text}
 use Rattle.isa.specs.Text.{ascii, text}
 use Rattle.isa.specs.Format.{fill}
 use Rattle.isa.specs.Word.{digitW, byteYZ}
+use Rattle.isa.proofs.Words.{read-off}
 use Rattle.disasm.specs.Listing.{listingTemplate, listingText}
-use Rattle.disasm.proofs.Lines.{read-off, listed, other-listed}
+use Rattle.disasm.proofs.Lines.{listed, other-listed}
 use borrow.Author.Needs.{needs}
 use Rattle.disasm.proofs.listing.listing_text.Statement.{statement}
 use Rattle.disasm.proofs.listing.listing_text.Tie as tie

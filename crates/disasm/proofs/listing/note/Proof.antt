@@ -1,8 +1,8 @@
 -- Assumes nothing.
 use mathlib.Core.Path.{_≡_}
 use Rattle.isa.specs.Word.{byteYZ, decodeWord}
-use Rattle.disasm.proofs.Lines.{read-off}
 use borrow.Author.Needs.{needs}
+use Rattle.isa.proofs.Words.{read-off}
 use Rattle.disasm.proofs.listing.note.Statement.{statement}
 use Rattle.disasm.proofs.listing.note.Tie as tie
 

@@ -4,9 +4,9 @@ use lib.Dec.{lit≤}
 use Rattle.isa.specs.Text.{ascii}
 use Rattle.isa.specs.declared.opcode.Decoded.the-variants.{Unknown}
 use Rattle.isa.proofs.Fills.{filled-whole}
+use Rattle.isa.proofs.Words.{decodes}
 use Rattle.disasm.specs.Disassembly.{disassembleText}
 use Rattle.disasm.specs.Listing.{otherTemplate}
-use Rattle.disasm.proofs.Texts.{decodes}
 use Rattle.disasm.proofs.Lines.{othered}
 use borrow.Author.Needs.{needs}
 use Rattle.disasm.proofs.listing.other_text.Statement.{statement}

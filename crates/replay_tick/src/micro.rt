@@ -1,0 +1,164 @@
+// Records of kind 'M': one tick of a running machine.
+use crate::state::alu_of;
+use crate::state::fault_of;
+use crate::state::option_of;
+use crate::state::phase_number;
+use crate::state::put_control;
+use crate::state::put_last;
+use crate::state::transfer_number;
+use crate::state::transfer_of;
+use crate::state::write_number;
+use check::same;
+use encoding::put_bytes;
+use encoding::put_number;
+use replay::byte_at;
+use replay::put_text;
+use replay::word_at;
+use tick::BusTransfer;
+use tick::Control;
+use tick::Operands;
+use tick::State;
+use tick::Tick;
+use tick::phase_of;
+use tick::tick_of;
+use tick::tick_text;
+
+// The control unit that the question has. It runs: a halted machine has no tick.
+fn control_of(record: &[u8]) -> Control {
+    Control {
+        pc: byte_at(record, 1),
+        ir: word_at(record, 2),
+        mar: byte_at(record, 4),
+        mdr: word_at(record, 5),
+        instruction_address: byte_at(record, 7),
+        tick: byte_at(record, 8),
+        execute_ticks: byte_at(record, 9),
+        halted: false,
+    }
+}
+
+// The words that the tick may read.
+fn operands_of(record: &[u8]) -> Operands {
+    Operands {
+        cell: word_at(record, 10),
+        x: word_at(record, 12),
+        y: word_at(record, 14),
+        z: word_at(record, 16),
+        zero: word_at(record, 18),
+    }
+}
+
+// The whole state that the question has.
+fn state_of(record: &[u8]) -> State {
+    let control = control_of(record);
+    let fault = fault_of(
+        byte_at(record, 20),
+        word_at(record, 21),
+        byte_at(record, 23),
+    );
+    let last_transfer = transfer_of(
+        byte_at(record, 24),
+        byte_at(record, 25),
+        word_at(record, 26),
+    );
+    let right = option_of(byte_at(record, 31), word_at(record, 32));
+    let last_alu = alu_of(
+        byte_at(record, 28),
+        word_at(record, 29),
+        right,
+        word_at(record, 34),
+    );
+    State {
+        control,
+        fault,
+        last_transfer,
+        last_alu,
+    }
+}
+
+// The words that the tick may read, again.
+fn put_operands(out: &mut [u8], o: Operands) {
+    put_number(out, 10, 2, o.cell as u64);
+    put_number(out, 12, 2, o.x as u64);
+    put_number(out, 14, 2, o.y as u64);
+    put_number(out, 16, 2, o.z as u64);
+    put_number(out, 18, 2, o.zero as u64);
+}
+
+// The question again, as the state and the words say it.
+fn put_question(out: &mut [u8], s: State, o: Operands) {
+    put_bytes(out, 0, b"M");
+    put_control(out, 1, s.control);
+    put_operands(out, o);
+    put_last(out, 20, s);
+}
+
+// A truth as the byte of a record.
+fn flag(b: bool) -> u8 {
+    if b { 1 } else { 0 }
+}
+
+// The state that the tick leaves.
+fn put_state(out: &mut [u8], s: State) {
+    let c = s.control;
+    put_control(out, 36, c);
+    put_number(out, 45, 1, flag(c.halted) as u64);
+    put_last(out, 46, s);
+}
+
+// The tick's text and its phase, which the control unit says as it was before.
+fn put_text_and_phase(out: &mut [u8], before: Control, o: Operands) {
+    let tick = before.tick;
+    put_text(out, 62, tick_text(tick, o.x == o.zero, before.ir));
+    put_number(out, 95, 1, phase_number(phase_of(tick)) as u64);
+}
+
+// Whether a transfer is a read, and whether it is a write.
+fn transfer_flags(bus: BusTransfer) -> [u8; 2] {
+    match bus {
+        BusTransfer::Idle => [0, 0],
+        BusTransfer::Read { .. } => [1, 0],
+        BusTransfer::Write { .. } => [0, 1],
+    }
+}
+
+// The rest of what the original reports of a tick, and the counters' growth. A machine that halts
+// with no instruction completed has met an unknown one. The last 1 says that memory and registers
+// are as the bus and the register write say: the original's side is tested where the list is made.
+fn put_effects(out: &mut [u8], t: Tick) {
+    let s = t.state;
+    let c = s.control;
+    let bus = t.bus;
+    let write = t.write;
+    let transfers = transfer_flags(bus);
+    let ends = [
+        flag(c.tick == 0),
+        flag(c.halted),
+        flag(c.halted && !t.completed),
+    ];
+    let rest = [
+        c.instruction_address,
+        flag(t.completed),
+        1,
+        transfers[0],
+        transfers[1],
+        1,
+    ];
+    put_bytes(out, 96, &ends);
+    put_number(out, 99, 4, transfer_number(bus));
+    put_number(out, 103, 4, write_number(write));
+    put_bytes(out, 107, &rest);
+}
+
+// Whether the record is the one that is due for its machine.
+pub(crate) fn passes(record: &[u8]) -> bool {
+    let s = state_of(record);
+    let o = operands_of(record);
+    let t = tick_of(s, o);
+    let mut due = [0u8; 113];
+    put_question(&mut due, s, o);
+    put_state(&mut due, t.state);
+    put_text_and_phase(&mut due, s.control, o);
+    put_effects(&mut due, t);
+    same(record, &due)
+}
