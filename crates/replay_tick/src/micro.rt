@@ -14,11 +14,13 @@ use encoding::put_number;
 use replay::byte_at;
 use replay::put_text;
 use replay::word_at;
-use tick::BusTransfer;
 use tick::Control;
+use tick::Counters;
 use tick::Operands;
 use tick::State;
 use tick::Tick;
+use tick::count_tick;
+use tick::is_lawful;
 use tick::phase_of;
 use tick::tick_of;
 use tick::tick_text;
@@ -113,13 +115,22 @@ fn put_text_and_phase(out: &mut [u8], before: Control, o: Operands) {
     put_number(out, 95, 1, phase_number(phase_of(tick)) as u64);
 }
 
-// Whether a transfer is a read, and whether it is a write.
-fn transfer_flags(bus: BusTransfer) -> [u8; 2] {
-    match bus {
-        BusTransfer::Idle => [0, 0],
-        BusTransfer::Read { .. } => [1, 0],
-        BusTransfer::Write { .. } => [0, 1],
-    }
+// What the counters grow by, a byte each.
+fn put_counts(out: &mut [u8], at: usize, t: Tick) {
+    let none = Counters {
+        instructions: 0,
+        micro_operations: 0,
+        bus_reads: 0,
+        bus_writes: 0,
+    };
+    let bus = t.bus;
+    let k = count_tick(none, bus, t.completed);
+    let mut bytes = [0u8; 4];
+    put_number(&mut bytes, 0, 1, k.instructions);
+    put_number(&mut bytes, 1, 1, k.micro_operations);
+    put_number(&mut bytes, 2, 1, k.bus_reads);
+    put_number(&mut bytes, 3, 1, k.bus_writes);
+    put_bytes(out, at, &bytes);
 }
 
 // The rest of what the original reports of a tick, and the counters' growth. A machine that halts
@@ -130,24 +141,27 @@ fn put_effects(out: &mut [u8], t: Tick) {
     let c = s.control;
     let bus = t.bus;
     let write = t.write;
-    let transfers = transfer_flags(bus);
+    let address = [c.instruction_address];
     let ends = [
         flag(c.tick == 0),
         flag(c.halted),
         flag(c.halted && !t.completed),
     ];
-    let rest = [
-        c.instruction_address,
-        flag(t.completed),
-        1,
-        transfers[0],
-        transfers[1],
-        1,
-    ];
     put_bytes(out, 96, &ends);
     put_number(out, 99, 4, transfer_number(bus));
     put_number(out, 103, 4, write_number(write));
-    put_bytes(out, 107, &rest);
+    put_bytes(out, 107, &address);
+    put_counts(out, 108, t);
+    put_number(out, 112, 1, 1);
+}
+
+// Whether a machine can have these control units, before the tick and after it. The original came
+// to both, so none of them may be refused.
+fn lawful_around(before: Control, after: State) -> bool {
+    if is_lawful(before) {
+        return is_lawful(after.control);
+    }
+    false
 }
 
 // Whether the record is the one that is due for its machine.
@@ -155,6 +169,9 @@ pub(crate) fn passes(record: &[u8]) -> bool {
     let s = state_of(record);
     let o = operands_of(record);
     let t = tick_of(s, o);
+    if !lawful_around(s.control, t.state) {
+        return false;
+    }
     let mut due = [0u8; 113];
     put_question(&mut due, s, o);
     put_state(&mut due, t.state);

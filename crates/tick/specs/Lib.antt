@@ -1,3 +1,5 @@
 pub mod Plan
 pub mod Tick
+pub mod Lawful
+pub mod Count
 pub mod Examples

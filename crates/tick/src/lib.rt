@@ -1,7 +1,9 @@
 // One tick of the MASSEY machine on small values: the register transfers of an instruction, their
-// texts, and what each does. The arrays and the counters are the layer's above.
+// texts, what each does and how it counts. The arrays are the layer's above.
 mod control;
+mod counters;
 mod execute;
+mod lawful;
 mod plan;
 mod texts;
 
@@ -15,7 +17,11 @@ pub use control::RegisterWrite;
 pub use control::State;
 pub use control::Tick;
 pub use control::WordOption;
+pub use counters::Counters;
+pub use counters::count_tick;
+pub use counters::is_over_counted;
 pub use execute::tick_of;
+pub use lawful::is_lawful;
 pub use plan::Phase;
 pub use plan::TransferPlan;
 pub use plan::execute_tick_count;
