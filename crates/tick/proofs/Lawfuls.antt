@@ -17,6 +17,7 @@ use Rattle.tick.specs.declared.control.Tick.{Tick}
 use Rattle.tick.specs.Plan.{executeTicks}
 use Rattle.tick.specs.Tick.{decodeAs, decodeTick, executeTick, endedTick, laterTick, onward, tickOf}
 use Rattle.tick.specs.Lawful.{lawful}
+use Rattle.tick.proofs.Plans.{ticks-few}
 
 true-false : true ≡ false → ⊥
 true-false e = let z : _≡_ {A = ℕ} 0 1 = cc in omega arith
@@ -112,22 +113,6 @@ keeps (Known Jump) n s o = kept refl refl refl refl
 keeps (Known Halt) n s o = kept refl refl refl refl
 keeps Unknown n s o = kept refl refl refl refl
 
-at-most-three : (d : Decoded) → executeTicks d ≤ 3
-at-most-three (Known LoadImmediate) = omega arith
-at-most-three (Known LoadRegister) = omega arith
-at-most-three (Known LoadMemory) = omega arith
-at-most-three (Known StoreMemory) = omega arith
-at-most-three (Known Add) = omega arith
-at-most-three (Known Negate) = omega arith
-at-most-three (Known ShiftRight) = omega arith
-at-most-three (Known ShiftLeft) = omega arith
-at-most-three (Known And) = omega arith
-at-most-three (Known Or) = omega arith
-at-most-three (Known Xor) = omega arith
-at-most-three (Known Jump) = omega arith
-at-most-three (Known Halt) = omega arith
-at-most-three Unknown = omega arith
-
 -- execute tick n
 onward-next : (n t : ℕ) (c : Control) (q : Tick) → Kept c (q .state .control) → c .tick ≡ t → t ≡ n + 4 → t ≤ 6 → c .halted ≡ false → c .«execute_ticks» ≡ executeTicks (decodeWord (c .ir))
     → Next t (onward n q .state .control)
@@ -140,7 +125,7 @@ onward-next n t c q k m f h r e = go (leb (q .state .control .«execute_ticks»)
         let next : (q .state .control .tick + 1) % 2 ^ 8 ≡ t + 1 = omega (arith, k .tick, m, h) in
         let count : q .state .control .«execute_ticks» ≡ executeTicks (decodeWord (q .state .control .ir)) = k .ticks ∙ e ∙ ap (λ (w : ℕ). executeTicks (decodeWord w)) (sym (k .ir)) in
         record {
-          machine = lawful-execute (laterTick q .state .control) (omega (arith, next, count, l, f, at-most-three (decodeWord (q .state .control .ir)))) count (omega (arith, next, l, f));
+          machine = lawful-execute (laterTick q .state .control) (omega (arith, next, count, l, f, ticks-few (decodeWord (q .state .control .ir)))) count (omega (arith, next, l, f));
           goes = λ _. (next, k .halted ∙ r);
         }
 
