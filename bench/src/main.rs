@@ -2,6 +2,8 @@
 //! a table. Lent buffers are used again and again and never cleared between
 //! calls; the original makes a new `String` each time, as its callers get it.
 
+mod machine;
+
 use oracle::random::Random;
 use oracle::{disasm, images};
 use std::hint::black_box;
@@ -33,6 +35,20 @@ fn main() {
         disassembling(&sets),
     );
     row("listing of 256 words", "none", listing(&sets));
+    let programs = machine::programs();
+    machine::agree(&programs);
+    row(
+        "`run`, budget 1,000,000",
+        "0.2",
+        machine::running(&programs),
+    );
+    row("`step_instruction`", "1.5", machine::stepping(&programs));
+    row("`micro_step`", "8", machine::ticking(&programs));
+    row(
+        "the state's check, to a `step_instruction`",
+        "0.5",
+        machine::checking(&programs),
+    );
 }
 
 /// Each of the sixteen first digits equally often, in an order by chance.
@@ -72,7 +88,7 @@ fn disassembling(sets: &[Vec<u16>]) -> (f64, f64) {
             black_box(archive::disassemble(black_box(*word), black_box(&mut out)));
         }
     };
-    medians(sets.len(), &mut rust, &mut ours)
+    medians(ROUNDS, sets.len(), &mut rust, &mut ours)
 }
 
 fn listing(sets: &[Vec<u16>]) -> (f64, f64) {
@@ -88,15 +104,20 @@ fn listing(sets: &[Vec<u16>]) -> (f64, f64) {
             black_box(archive::listing(black_box(image), black_box(&mut out)));
         }
     };
-    medians(sets.len(), &mut rust, &mut ours)
+    medians(ROUNDS, sets.len(), &mut rust, &mut ours)
 }
 
 /// The median nanoseconds for one set, of either side. The sides take turns,
 /// and the one that begins changes, so that what disturbs one disturbs both.
-fn medians(sets: usize, rust: &mut dyn FnMut(), ours: &mut dyn FnMut()) -> (f64, f64) {
+fn medians(
+    rounds: usize,
+    sets: usize,
+    rust: &mut dyn FnMut(),
+    ours: &mut dyn FnMut(),
+) -> (f64, f64) {
     let (rust_passes, our_passes) = (passes(rust), passes(ours));
     let (mut rust_times, mut our_times) = (Vec::new(), Vec::new());
-    for round in 0..ROUNDS {
+    for round in 0..rounds {
         if round % 2 == 0 {
             rust_times.push(timed(rust, rust_passes));
             our_times.push(timed(ours, our_passes));

@@ -18,12 +18,29 @@ pub struct Record {
     pub kind: u8,
     pub question: Vec<u8>,
     pub answer: Vec<u8>,
+    /// Whether the answer stands before the question: then the question needs
+    /// no length of its own, since the record ends with it.
+    pub answer_first: bool,
 }
 
 impl Record {
+    /// The answer behind the question.
+    pub fn new(kind: u8, question: Vec<u8>, answer: Vec<u8>) -> Self {
+        Record {
+            kind,
+            question,
+            answer,
+            answer_first: false,
+        }
+    }
+
     /// The record as it stands in a list.
     pub fn bytes(&self) -> Vec<u8> {
-        framed(&[&[self.kind], &self.question[..], &self.answer[..]].concat())
+        let (first, second) = match self.answer_first {
+            true => (&self.answer, &self.question),
+            false => (&self.question, &self.answer),
+        };
+        framed(&[&[self.kind], &first[..], &second[..]].concat())
     }
 }
 
@@ -53,11 +70,7 @@ pub fn word(word: u16) -> Record {
     put_optional(&mut answer, disasm::active_register(word));
     put_sources(&mut answer, &disasm::source_registers(word));
     put_optional(&mut answer, disasm::memory_operand(word));
-    Record {
-        kind: b'W',
-        question: word.to_be_bytes().to_vec(),
-        answer,
-    }
+    Record::new(b'W', word.to_be_bytes().to_vec(), answer)
 }
 
 /// 'N': an opcode by its nibble, and its fixed texts.
@@ -67,11 +80,7 @@ pub fn nibble(byte: u8) -> Record {
     if let Some(opcode) = opcode {
         put_opcode(&mut answer, opcode);
     }
-    Record {
-        kind: b'N',
-        question: vec![byte],
-        answer,
-    }
+    Record::new(b'N', vec![byte], answer)
 }
 
 /// 'A': the two lists of all opcodes and all groups.
@@ -80,11 +89,7 @@ pub fn all() -> Record {
     let groups = InstructionGroup::ALL
         .iter()
         .map(|group| group_number(*group));
-    Record {
-        kind: b'A',
-        question: Vec::new(),
-        answer: opcodes.chain(groups).collect(),
-    }
+    Record::new(b'A', Vec::new(), opcodes.chain(groups).collect())
 }
 
 /// 'E': encoding from four digits, and from an opcode and three.
@@ -97,11 +102,7 @@ pub fn encode(digits: [u8; 4]) -> Record {
     let new = Opcode::from_nibble(opcode).map(|opcode| Instruction::new(opcode, x, y, z));
     answer.push(new.is_some() as u8);
     answer.extend(new.map_or(0, Instruction::word).to_be_bytes());
-    Record {
-        kind: b'E',
-        question: digits.to_vec(),
-        answer,
-    }
+    Record::new(b'E', digits.to_vec(), answer)
 }
 
 /// 'B': the two texts of one byte.
@@ -109,11 +110,7 @@ pub fn byte(value: u8) -> Record {
     let mut answer = Vec::new();
     put_text(&mut answer, &isa::format_byte(value));
     put_text(&mut answer, &isa::register_name(value));
-    Record {
-        kind: b'B',
-        question: vec![value],
-        answer,
-    }
+    Record::new(b'B', vec![value], answer)
 }
 
 /// 'H': a number of at least so many digits. The port carries 32 at most, so
@@ -125,11 +122,7 @@ pub fn hex(value: u16, digits: u64) -> Record {
         &isa::format_hex(value, digits.min(TEXT as u64) as usize),
     );
     let question = [&value.to_be_bytes()[..], &digits.to_be_bytes()[..]].concat();
-    Record {
-        kind: b'H',
-        question,
-        answer,
-    }
+    Record::new(b'H', question, answer)
 }
 
 /// 'P': a register's name. The original takes a `&str`; the port takes any
@@ -139,11 +132,7 @@ pub fn parse(text: &[u8]) -> Record {
     let register = std::str::from_utf8(text).ok().and_then(isa::parse_register);
     let mut answer = Vec::new();
     put_optional(&mut answer, register);
-    Record {
-        kind: b'P',
-        question: [&[length], text].concat(),
-        answer,
-    }
+    Record::new(b'P', [&[length], text].concat(), answer)
 }
 
 /// 'L': the listing of an image.
@@ -159,11 +148,7 @@ pub fn listing(words: &[u16]) -> Record {
         listing.as_bytes(),
     ]
     .concat();
-    Record {
-        kind: b'L',
-        question,
-        answer,
-    }
+    Record::new(b'L', question, answer)
 }
 
 fn put_fields(answer: &mut Vec<u8>, instruction: Instruction) {

@@ -1,7 +1,7 @@
 //! The port's programs that replay lists, each with its lists.
 
 use crate::record::{self, Record};
-use crate::{lists, tick_lists, ticks};
+use crate::{calls, lists, tick_lists, ticks, vm_lists};
 
 pub struct Replay {
     pub program: &'static str,
@@ -11,15 +11,22 @@ pub struct Replay {
     pub full: fn() -> Vec<Record>,
     /// A few short records, at least one of each kind.
     pub samples: fn() -> Vec<Record>,
+    /// The kinds whose question begins with a count.
+    pub counted: &'static [u8],
+    /// Malformed records of the program's own, each with a name and without
+    /// its length.
+    pub malformed: fn() -> Vec<(String, Vec<u8>)>,
 }
 
-pub const REPLAYS: [Replay; 2] = [
+pub const REPLAYS: [Replay; 3] = [
     Replay {
         program: "replay_disasm",
         kinds: &record::KINDS,
         fixed: lists::fixed,
         full: lists::full,
         samples: lists::samples,
+        counted: b"PL",
+        malformed: Vec::new,
     },
     Replay {
         program: "replay_tick",
@@ -27,5 +34,16 @@ pub const REPLAYS: [Replay; 2] = [
         fixed: tick_lists::fixed,
         full: tick_lists::full,
         samples: tick_lists::samples,
+        counted: b"",
+        malformed: Vec::new,
+    },
+    Replay {
+        program: "replay_vm",
+        kinds: &calls::KINDS,
+        fixed: vm_lists::fixed,
+        full: vm_lists::full,
+        samples: vm_lists::samples,
+        counted: b"",
+        malformed: vm_lists::malformed,
     },
 ];

@@ -32,11 +32,7 @@ pub fn plan(word: u16) -> Record {
     for index in 0..PLAN {
         put_text(&mut answer, plan.get(index).map_or("", String::as_str));
     }
-    Record {
-        kind: b'T',
-        question: word.to_be_bytes().to_vec(),
-        answer,
-    }
+    Record::new(b'T', word.to_be_bytes().to_vec(), answer)
 }
 
 /// 'F': the label of each phase.
@@ -56,11 +52,7 @@ fn named(kind: u8, names: &[&str]) -> Vec<Record> {
     let record = |(place, name): (usize, &&str)| {
         let mut answer = Vec::new();
         put_text(&mut answer, name);
-        Record {
-            kind,
-            question: vec![place as u8],
-            answer,
-        }
+        Record::new(kind, vec![place as u8], answer)
     };
     names.iter().enumerate().map(record).collect()
 }
@@ -92,11 +84,7 @@ pub fn micro(before: &Machine) -> Record {
     put_op(&mut answer, &op);
     put_growth(&mut answer, before, &after);
     answer.push(1);
-    Record {
-        kind: b'M',
-        question: question(before),
-        answer,
-    }
+    Record::new(b'M', question(before), answer)
 }
 
 /// The port's tick says by the bus and the register write alone what becomes
@@ -131,7 +119,7 @@ fn question(machine: &Machine) -> Vec<u8> {
     question
 }
 
-fn put_word(out: &mut Vec<u8>, word: u16) {
+pub(crate) fn put_word(out: &mut Vec<u8>, word: u16) {
     out.extend(word.to_be_bytes());
 }
 
@@ -154,7 +142,7 @@ fn put_last(out: &mut Vec<u8>, machine: &Machine) {
     put_alu(out, machine.last_alu.as_ref());
 }
 
-fn put_fault(out: &mut Vec<u8>, fault: Option<Fault>) {
+pub(crate) fn put_fault(out: &mut Vec<u8>, fault: Option<Fault>) {
     out.push(match fault.map(|fault| fault.kind) {
         None => 0,
         Some(FaultKind::UnknownInstruction) => 1,
@@ -164,7 +152,7 @@ fn put_fault(out: &mut Vec<u8>, fault: Option<Fault>) {
     out.push(fault.map_or(0, |fault| fault.address));
 }
 
-fn put_transfer(out: &mut Vec<u8>, transfer: Option<BusTransfer>) {
+pub(crate) fn put_transfer(out: &mut Vec<u8>, transfer: Option<BusTransfer>) {
     out.push(match transfer.map(|transfer| transfer.direction) {
         None => 0,
         Some(BusDirection::Read) => 1,
@@ -174,7 +162,7 @@ fn put_transfer(out: &mut Vec<u8>, transfer: Option<BusTransfer>) {
     put_word(out, transfer.map_or(0, |transfer| transfer.value));
 }
 
-fn put_alu(out: &mut Vec<u8>, record: Option<&AluRecord>) {
+pub(crate) fn put_alu(out: &mut Vec<u8>, record: Option<&AluRecord>) {
     let Some(record) = record else {
         out.extend([0; 8]);
         return;
@@ -201,13 +189,23 @@ fn operation_number(name: &str) -> u8 {
 }
 
 fn put_op(out: &mut Vec<u8>, op: &MicroOp) {
-    let phase = PHASES.iter().position(|phase| *phase == op.phase);
     put_text(out, &op.text);
-    out.push(phase.expect("it is one of the phases") as u8);
+    put_op_rest(out, op);
+}
+
+/// All that a tick reports, but for its text.
+pub(crate) fn put_op_rest(out: &mut Vec<u8>, op: &MicroOp) {
+    out.push(phase_number(op.phase));
     out.extend([op.ends_instruction, op.halts, op.faulted].map(u8::from));
     put_transfer(out, op.bus);
     put_writes(out, &op.register_writes);
     out.push(op.address);
+}
+
+/// The phase's place among the phases.
+pub(crate) fn phase_number(phase: Phase) -> u8 {
+    let place = PHASES.iter().position(|other| *other == phase);
+    place.expect("it is one of the phases") as u8
 }
 
 fn put_writes(out: &mut Vec<u8>, writes: &[(u8, u16)]) {

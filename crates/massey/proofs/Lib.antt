@@ -1,2 +1,3 @@
--- `Answers` has the laws of `specs/Calls.antt`.
+-- `Answers` has the laws of `specs/Calls.antt`, `Machines` those of `specs/Machine.antt`.
 pub mod Answers
+pub mod Machines

@@ -25,14 +25,21 @@ pub fn word_at(bytes: &[u8], at: usize) -> u16
     (get_number(bytes, at, 2) % 65536) as u16
 }
 
-// A text's 32 bytes and its length. The length goes first, as a number of 33 bytes, whose last it
-// is: the text then lies over the zeros in front.
+// Bytes, and how many of them are live. The count goes first, as a number of `width` bytes, whose last
+// it is: the bytes then lie over the zeros in front.
+fn put_live(out: &mut [u8], at: usize, width: usize, bytes: &[u8], live: u8)
+    ensures { λ _. ⌜ now (out .exit) ≡ written (written (now (out .entry)) at (bigEndian width live)) at (now (bytes .entry)) ⌝ }
+{
+    put_number(out, at, width, live as u64);
+    put_bytes(out, at, bytes);
+}
+
+// A text's 32 bytes and its length.
 pub fn put_text(out: &mut [u8], at: usize, t: Text)
     ensures { λ _. ⌜ now (out .exit) ≡ written (written (now (out .entry)) at (bigEndian 33 (t .len))) at (t .bytes) ⌝ }
 {
     let bytes = t.bytes;
-    put_number(out, at, 33, t.len as u64);
-    put_bytes(out, at, &bytes);
+    put_live(out, at, 33, &bytes, t.len);
 }
 
 // The same for a text of 80 bytes.
@@ -40,6 +47,5 @@ pub fn put_long_text(out: &mut [u8], at: usize, t: LongText)
     ensures { λ _. ⌜ now (out .exit) ≡ written (written (now (out .entry)) at (bigEndian 81 (t .len))) at (t .bytes) ⌝ }
 {
     let bytes = t.bytes;
-    put_number(out, at, 81, t.len as u64);
-    put_bytes(out, at, &bytes);
+    put_live(out, at, 81, &bytes, t.len);
 }

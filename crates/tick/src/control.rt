@@ -71,10 +71,10 @@ pub enum RegisterWrite {
 
 // The control unit and the registers beside it.
 pub struct Control {
-    pub pc: u8,
     pub ir: u16,
-    pub mar: u8,
     pub mdr: u16,
+    pub pc: u8,
+    pub mar: u8,
     pub instruction_address: u8,
     pub tick: u8,
     pub execute_ticks: u8,

@@ -10,6 +10,10 @@ mod c {
             out: *mut u8,
             out_len: usize,
         ) -> i64;
+        pub fn massey_run(image: *const u8, image_len: usize, budget: u64) -> u64;
+        pub fn massey_steps(image: *const u8, image_len: usize, n: u64) -> u64;
+        pub fn massey_ticks(image: *const u8, image_len: usize, n: u64) -> u64;
+        pub fn massey_checks(image: *const u8, image_len: usize, budget: u64, n: u64) -> u64;
     }
 }
 
@@ -24,4 +28,29 @@ pub fn disassemble(word: u16, out: &mut [u8]) -> i64 {
 pub fn listing(image: &[u8], out: &mut [u8]) -> i64 {
     // SAFETY: as above, and the two slices cannot overlap.
     unsafe { c::massey_listing(image.as_ptr(), image.len(), out.as_mut_ptr(), out.len()) }
+}
+
+/// The micro operations of a run with that budget and no breakpoints, on a new
+/// machine with the image loaded.
+pub fn run(image: &[u8], budget: u64) -> u64 {
+    // SAFETY: pointer and length are those of a slice lent for the call.
+    unsafe { c::massey_run(image.as_ptr(), image.len(), budget) }
+}
+
+/// The same of `n` instructions, one at a time.
+pub fn steps(image: &[u8], n: u64) -> u64 {
+    // SAFETY: as above.
+    unsafe { c::massey_steps(image.as_ptr(), image.len(), n) }
+}
+
+/// The same of `n` ticks, one at a time.
+pub fn ticks(image: &[u8], n: u64) -> u64 {
+    // SAFETY: as above.
+    unsafe { c::massey_ticks(image.as_ptr(), image.len(), n) }
+}
+
+/// How many of `n` questions whether the machine runs are served after a run.
+pub fn checks(image: &[u8], budget: u64, n: u64) -> u64 {
+    // SAFETY: as above.
+    unsafe { c::massey_checks(image.as_ptr(), image.len(), budget, n) }
 }

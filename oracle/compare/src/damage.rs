@@ -12,9 +12,9 @@ const DAMAGED: usize = 200;
 /// An answer that is short enough to damage each of its bytes in turn.
 const SHORT: usize = 400;
 
-pub fn compare(tally: &mut Tally, replay: &Replay) {
+/// `records` is the program's full list.
+pub fn compare(tally: &mut Tally, replay: &Replay, records: &[Record]) {
     let mut random = Random::new(0xDA_3A6E);
-    let records = (replay.full)();
     for kind in replay.kinds {
         let pool: Vec<&Record> = records
             .iter()
@@ -100,7 +100,9 @@ fn cut_large(tally: &mut Tally, replay: &Replay, random: &mut Random) {
         ends.push(list.len());
     }
     let by_chance = (0..20).map(|_| random.below(list.len()));
-    for at in by_chance.chain([0, 4_096, 8_192, 65_536, 131_072]) {
+    let ends_of_buffers = [0, 4_096, 8_192, 65_536, 131_072];
+    let there = ends_of_buffers.into_iter().filter(|at| *at <= list.len());
+    for at in by_chance.chain(there) {
         let passed = ends.iter().filter(|end| **end <= at).count() - 1;
         let failed = (ends[passed] < at) as u64;
         counts_as(tally, replay, &list[..at], passed as u64, failed, || {
@@ -113,7 +115,8 @@ fn cut_large(tally: &mut Tally, replay: &Replay, random: &mut Random) {
 fn malformed_between_good(tally: &mut Tally, replay: &Replay) {
     let samples = (replay.samples)();
     let good = samples[samples.len() - 1].bytes();
-    let malformed = malformed(replay.kinds, &samples);
+    let mut malformed = malformed(replay, &samples);
+    malformed.extend((replay.malformed)());
     for (name, body) in &malformed {
         let list = [&good[..], &framed(body), &good].concat();
         counts_as(tally, replay, &list, 2, 1, || {
@@ -131,19 +134,21 @@ fn malformed_between_good(tally: &mut Tally, replay: &Replay) {
 }
 
 /// Records of no known kind, or of a length that is not their kind's.
-fn malformed(kinds: &[u8], samples: &[Record]) -> Vec<(String, Vec<u8>)> {
+fn malformed(replay: &Replay, samples: &[Record]) -> Vec<(String, Vec<u8>)> {
     let mut malformed = vec![("no kind".to_string(), Vec::new())];
-    for kind in (0..=255).filter(|kind| !kinds.contains(kind)) {
+    for kind in (0..=255).filter(|kind| !replay.kinds.contains(kind)) {
         let name = format!("unknown kind {kind:02X}");
         malformed.push((name.clone(), vec![kind]));
         malformed.push((name, [&[kind], &body(&samples[0])[1..]].concat()));
     }
     malformed.push(("unknown kind, longest".into(), vec![b'?'; 65_535]));
-    malformed.extend(samples.iter().flat_map(wrong_lengths));
+    for record in samples {
+        malformed.extend(wrong_lengths(replay, record));
+    }
     malformed
 }
 
-fn wrong_lengths(record: &Record) -> Vec<(String, Vec<u8>)> {
+fn wrong_lengths(replay: &Replay, record: &Record) -> Vec<(String, Vec<u8>)> {
     let body = body(record);
     let longer = [&body[..], &[0]].concat();
     let longest = [&body[..], &vec![0; 65_535 - body.len()]].concat();
@@ -154,7 +159,7 @@ fn wrong_lengths(record: &Record) -> Vec<(String, Vec<u8>)> {
         (name("one byte less in"), body[..body.len() - 1].to_vec()),
         (name("nothing but"), vec![record.kind]),
     ];
-    if matches!(record.kind, b'P' | b'L') {
+    if replay.counted.contains(&record.kind) {
         wrong.extend(wrong_counts(&body).map(|body| (name("another count in"), body)));
     }
     wrong

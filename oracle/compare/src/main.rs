@@ -27,9 +27,12 @@ fn main() -> ExitCode {
     part("archive, listings", &listings::compare);
     for replay in &REPLAYS {
         let name = |list: &str| format!("{}, {list}", replay.program);
-        part(&name("full list"), &|tally| replay::compare(tally, replay));
+        let records = (replay.full)();
+        part(&name("full list"), &|tally| {
+            replay::compare(tally, replay, &records)
+        });
         part(&name("damaged lists"), &|tally| {
-            damage::compare(tally, replay)
+            damage::compare(tally, replay, &records)
         });
     }
     part("listing program, pipes", &pipes::compare);

@@ -14,9 +14,9 @@ pub struct Counts {
     pub failed: u64,
 }
 
-pub fn compare(tally: &mut Tally, replay: &Replay) {
-    let records = (replay.full)();
-    let counted = run(replay, &record::list_bytes(&records));
+/// `records` is the program's full list.
+pub fn compare(tally: &mut Tally, replay: &Replay, records: &[Record]) {
+    let counted = run(replay, &record::list_bytes(records));
     if let Ok(counts) = counted {
         tally.add(counts.passed, counts.failed);
     }
@@ -26,7 +26,7 @@ pub fn compare(tally: &mut Tally, replay: &Replay) {
         format!("{} records sent: {counted:?}", records.len())
     });
     if counted.is_ok_and(|counts| counts.failed > 0) {
-        for failing in failing(replay, &records, SHOWN as usize) {
+        for failing in failing(replay, records, SHOWN as usize) {
             tally.show(|| describe(failing));
         }
     }

@@ -1,0 +1,144 @@
+//! The machine's calls, each many times on a machine that was just loaded. The
+//! port's calls take the machine by value and check its state each time; the
+//! original's borrow it and check nothing.
+
+use crate::medians;
+use oracle::images;
+use oracle::vm::Machine;
+use std::hint::black_box;
+
+/// How many rounds a run is timed: each takes a second of the original.
+const RUN_ROUNDS: usize = 8;
+const ROUNDS: usize = 60;
+pub const BUDGET: u64 = 1_000_000;
+const CALLS: u64 = 1_000;
+/// Enough instructions that the trace is full when its texts are checked.
+const WARM: u64 = 200;
+
+/// Programs that never halt: eight opcodes in a loop, all that the ALU does,
+/// and stores to 64 addresses.
+pub fn programs() -> Vec<Vec<u16>> {
+    let eight = vec![
+        0x1105, 0x6212, 0x4380, 0x3380, 0x7030, 0x9101, 0xA123, 0xD000,
+    ];
+    let alu = vec![
+        0x11F3, 0x1207, 0x6312, 0x7030, 0x8302, 0x9401, 0xA513, 0xB612, 0xC732, 0xD0FF, 0xD000,
+    ];
+    let mut stores: Vec<u16> = (0x4180..0x41C0).collect();
+    stores.push(0xD000);
+    vec![eight, alu, stores]
+}
+
+/// Times mean nothing where the two sides do not do the same.
+pub fn agree(programs: &[Vec<u16>]) {
+    for words in programs {
+        let image = images::bytes(words);
+        for n in [0, 1, 2, 7, 100, CALLS] {
+            assert_eq!(archive::run(&image, n), run(words, n));
+            assert_eq!(archive::steps(&image, n), steps(words, n));
+            assert_eq!(archive::ticks(&image, n), ticks(words, n));
+            assert_eq!(archive::checks(&image, WARM, n), n);
+        }
+        assert_eq!(archive::run(&image, BUDGET), run(words, BUDGET));
+    }
+}
+
+fn loaded(words: &[u16]) -> Machine {
+    let mut machine = Machine::new();
+    machine.load_image(words);
+    machine
+}
+
+fn run(words: &[u16], budget: u64) -> u64 {
+    let mut machine = loaded(words);
+    black_box(machine.run(budget, &[]));
+    machine.micro_operations
+}
+
+fn steps(words: &[u16], n: u64) -> u64 {
+    let mut machine = loaded(words);
+    for _ in 0..n {
+        black_box(machine.step_instruction());
+    }
+    machine.micro_operations
+}
+
+fn ticks(words: &[u16], n: u64) -> u64 {
+    let mut machine = loaded(words);
+    for _ in 0..n {
+        black_box(machine.micro_step());
+    }
+    machine.micro_operations
+}
+
+/// The nanoseconds of a run.
+pub fn running(programs: &[Vec<u16>]) -> (f64, f64) {
+    timed(
+        RUN_ROUNDS,
+        1,
+        programs,
+        |words| run(words, BUDGET),
+        |image| archive::run(image, BUDGET),
+    )
+}
+
+/// The nanoseconds of one instruction.
+pub fn stepping(programs: &[Vec<u16>]) -> (f64, f64) {
+    timed(
+        ROUNDS,
+        CALLS,
+        programs,
+        |words| steps(words, CALLS),
+        |image| archive::steps(image, CALLS),
+    )
+}
+
+/// The nanoseconds of one tick.
+pub fn ticking(programs: &[Vec<u16>]) -> (f64, f64) {
+    timed(
+        ROUNDS,
+        CALLS,
+        programs,
+        |words| ticks(words, CALLS),
+        |image| archive::ticks(image, CALLS),
+    )
+}
+
+/// The nanoseconds of one check of the state, beside an instruction of the
+/// original.
+pub fn checking(programs: &[Vec<u16>]) -> (f64, f64) {
+    timed(
+        ROUNDS,
+        CALLS,
+        programs,
+        |words| steps(words, CALLS),
+        |image| archive::checks(image, WARM, CALLS),
+    )
+}
+
+/// Either side over all programs, of which each makes so many calls.
+fn timed(
+    rounds: usize,
+    calls: u64,
+    programs: &[Vec<u16>],
+    rust: impl Fn(&[u16]) -> u64,
+    ours: impl Fn(&[u8]) -> u64,
+) -> (f64, f64) {
+    let images: Vec<Vec<u8>> = programs.iter().map(|words| images::bytes(words)).collect();
+    let mut rust = || {
+        for words in programs {
+            black_box(rust(black_box(words)));
+        }
+    };
+    let mut ours = || {
+        for image in &images {
+            black_box(ours(black_box(image)));
+        }
+    };
+    medians(
+        rounds,
+        programs.len() * calls as usize,
+        &mut rust,
+        &mut ours,
+    )
+}

@@ -1,0 +1,169 @@
+-- The laws of `specs/Machine.antt`: the words of an image, the machine that is started on them, a run of it, and loops of calls on it.
+-- Assumes nothing.
+use Prim.Native.Nat.{ℕ, suc, _+_, _*_, _-_, _/_, _≤_, _<_}
+use native.Mathlib.Omega.{arith}
+use mathlib.Core.Path.{_≡_, refl, sym, ap, _∙_}
+use mathlib.Core.Bool.{Bool, true, false, cond}
+use mathlib.Core.List.{List, []}
+use borrow.Author.Tests.{ltb-true, ltb-false, le-leb}
+use lib.Dec.{eqb, ltb, leb}
+use lib.ListN.{length, take}
+use lib.Seq.{length-take-le}
+use Rattle.encoding.specs.Bytes.{numbers, readWords}
+use Rattle.encoding.proofs.Numbers.{length-numbers}
+use Rattle.tick.specs.Count.{overCounted}
+use Rattle.vm.specs.declared.machine.Machine.{Machine as Code}
+use Rattle.vm.specs.Machine.{Machine, microStep}
+use Rattle.vm.specs.Instruction.{stepInstruction}
+use Rattle.vm.specs.Run.{RunEnd, run}
+use Rattle.vm.specs.Refusal.{refusal, stepRefusalIf, stepRefusal}
+use Rattle.vm.specs.Calls.{Outcome, refused, served, answered, outcomeIf, haltedOp, microOp, microOutcome, haltedReport, instructionReport, stepOutcome, runOutcome, viewOf, isMachine, refusalOf, stepRefusalOf, restarted, imageWords, serve, loaded}
+use Rattle.vm.specs.declared.micro.MicroOp.{MicroOp}
+use Rattle.vm.specs.declared.report.InstructionReport.{InstructionReport}
+use Rattle.vm.proofs.Starts.{new-ok}
+use Rattle.massey.specs.Machine.{wordCount, wordsOf, start, times, moving}
+
+-- ---- the words of an image
+
+-- at most 256 count, and they lie in the bytes
+pub count-fits : (n : ℕ) → (wordCount n ≤ 256) × (2 * wordCount n ≤ n)
+count-fits n = go (ltb (n / 2) 256) refl
+  where
+    go : (b : Bool) → ltb (n / 2) 256 ≡ b → (cond b (n / 2) 256 ≤ 256) × (2 * cond b (n / 2) 256 ≤ n)
+    go true e = let h : n / 2 < 256 = ltb-true (n / 2) 256 e in (omega arith, omega arith)
+    go false e = let h : 256 ≤ n / 2 = ltb-false (n / 2) 256 e in (omega arith, omega arith)
+
+-- what is read into the front of an array
+pub words-read : (image zs : List ℕ) {n : ℕ} {ws : List ℕ} → length zs ≡ 256 → n ≡ wordCount (length image) → ws ≡ readWords image 0 (take n zs) → ws ≡ wordsOf image
+unfolding readWords wordsOf
+words-read image zs {n} l k e =
+    let f = count-fits (length image) in
+    let t : length (take n zs) ≡ n = length-take-le n zs (omega (arith, f .0)) in
+    e ∙ rw t (rw (le-leb (0 + 2 * n) (length image) (omega (arith, f .1))) (ap (λ (j : ℕ). numbers 2 j image) k))
+
+pub words-length : (image : List ℕ) → length (wordsOf image) ≡ wordCount (length image)
+unfolding wordsOf
+words-length image = length-numbers 2 (wordCount (length image)) image
+
+-- ---- the machine that is started
+
+pub start-ok : (image : List ℕ) → isMachine (start image) ≡ true
+unfolding start
+start-ok image = new-ok (imageWords (wordsOf image)) (wordCount (length image)) 0 (count-fits (length image) .0)
+
+start-runs : (image : List ℕ) → start image .state .control .halted ≡ false
+unfolding start restarted
+start-runs image = refl
+
+-- a call on a machine is served
+new-served : {ok : Bool} → ok ≡ true → (new old : Code) → serve (cond ok 0 8) new old .machine ≡ new
+unfolding serve
+new-served e new old = rw e
+
+pub not-refused : (m : Code) → isMachine m ≡ true → refusalOf m ≡ 0
+unfolding refusal
+not-refused m e = rw e
+
+no-history : (image : List ℕ) (n h : ℕ) → restarted image n h .«history_len» ≡ h
+unfolding restarted
+no-history image n h = refl
+
+-- at most 256 words have their own number
+all-count : {n : ℕ} → n ≤ 256 → cond (ltb n 256) n 256 ≡ n
+all-count {n} h = go (ltb n 256) refl
+  where
+    go : (b : Bool) → ltb n 256 ≡ b → cond b n 256 ≡ n
+    go true e = refl
+    go false e = let k : 256 ≤ n = ltb-false n 256 e in omega arith
+
+loaded-new : (ws : List ℕ) (m : Code) → isMachine m ≡ true → length ws ≤ 256 → loaded ws m .machine ≡ restarted (imageWords ws) (length ws) (m .«history_len»)
+unfolding loaded refusal
+loaded-new ws m ok h =
+    new-served ok (restarted (imageWords ws) (cond (ltb (length ws) 256) (length ws) 256) (m .«history_len»)) m
+    ∙ ap (λ (n : ℕ). restarted (imageWords ws) n (m .«history_len»)) (all-count h)
+
+-- the words of an image, loaded on a new machine
+pub start-loaded : (image : List ℕ) {ws : List ℕ} {m : Code} → ws ≡ wordsOf image → m ≡ restarted (imageWords []) 0 0 → loaded ws m .machine ≡ start image
+unfolding start
+start-loaded image {ws} {m} e g =
+    let new = restarted (imageWords []) 0 0 in
+    let l = words-length image in
+    let f = count-fits (length image) in
+    (λ i. loaded (e i) (g i) .machine)
+    ∙ loaded-new (wordsOf image) new (new-ok (imageWords []) 0 0 (omega arith)) (omega (arith, l, f .0))
+    ∙ (λ i. restarted (imageWords (wordsOf image)) (l i) (no-history (imageWords []) 0 0 i))
+
+-- ---- a run
+
+pub run-served : (breaks : List ℕ) (n : ℕ) (m : Machine) {ok : Bool} → ok ≡ true → m .state .control .halted ≡ false → runOutcome ok breaks n m ≡ run breaks 0 n m
+unfolding runOutcome
+run-served breaks n m e h = rw (e, h)
+
+pub run-started : (image : List ℕ) (n : ℕ) {s : Code} {r : RunEnd} → s ≡ start image → r ≡ runOutcome (isMachine s) [] n (viewOf s) → r ≡ run [] 0 n (viewOf (start image))
+run-started image n e g =
+    g
+    ∙ ap (λ (m : Code). runOutcome (isMachine m) [] n (viewOf m)) e
+    ∙ run-served [] n (viewOf (start image)) (start-ok image) (start-runs image)
+
+-- ---- what a step leaves
+
+abbrev left : {A : Type 0} → Outcome A → Machine
+left (refused n m) = m
+left (served a m) = m
+
+left-answered : {A : Type 0} (n : ℕ) (a : A) (m : Machine) → left (answered n a m) ≡ m
+left-answered n a m = go (eqb n 0)
+  where
+    go : (b : Bool) → left (cond b (served a m) (refused n m)) ≡ m
+    go true = refl
+    go false = refl
+
+left-outcome : {A : Type 0} (h o : Bool) (still moved : A) (m next : Machine) → left (outcomeIf (stepRefusalIf true h o) h still moved m next) ≡ cond h m (cond o m next)
+left-outcome true o still moved m next = refl
+left-outcome false true still moved m next = refl
+left-outcome false false still moved m next = refl
+
+-- of a machine, a call whose outcome goes by refusal 9 and by whether it is halted
+after : {A : Type 0} (s : Code) (n : ℕ) (a still moved : A) (m next : Machine) → isMachine s ≡ true
+    → answered n a m ≡ outcomeIf (stepRefusalOf s) (s .state .control .halted) still moved (viewOf s) next
+    → m ≡ cond (s .state .control .halted) (viewOf s) (cond (overCounted (s .counters)) (viewOf s) next)
+unfolding stepRefusal
+after s n a still moved m next ok e =
+    let h = s .state .control .halted in
+    let o = overCounted (s .counters) in
+    sym (left-answered n a m)
+    ∙ ap left e
+    ∙ ap (λ (b : Bool). left (outcomeIf (stepRefusalIf b h o) h still moved (viewOf s) next)) ok
+    ∙ left-outcome h o still moved (viewOf s) next
+
+pub after-tick : (s : Code) (n : ℕ) (a : MicroOp) (m : Machine) → isMachine s ≡ true → answered n a m ≡ microOutcome (stepRefusalOf s) (viewOf s) → m ≡ moving microStep (viewOf s)
+unfolding microOutcome moving
+after-tick s n a m ok e = let v = viewOf s in after s n a (haltedOp (v .state)) (microOp v) m (microStep v) ok e
+
+pub after-step : (s : Code) (n : ℕ) (a : InstructionReport) (m : Machine) → isMachine s ≡ true → answered n a m ≡ stepOutcome (stepRefusalOf s) (viewOf s) → m ≡ moving (λ v. stepInstruction v .machine) (viewOf s)
+unfolding stepOutcome moving
+after-step s n a m ok e = let v = viewOf s in after s n a (haltedReport v) (instructionReport v) m (stepInstruction v .machine) ok e
+
+-- ---- a loop of n steps
+
+-- what is to come after i turns, m being there now; s the machine at the start
+pub record Going (f : Machine → Machine) (n i : ℕ) (s m : Code) : Type 0 where
+  pub few : i ≤ n
+  pub ok : isMachine m ≡ true
+  pub rest : times (n - i) f (viewOf m) ≡ times n f (viewOf s)
+
+module _ (f : Machine → Machine) (n : ℕ) {s : Code} where
+  pub at-start : isMachine s ≡ true → Going f n 0 s s
+  at-start ok = record { few = omega arith; ok = ok; rest = let k : n - 0 ≡ n = omega arith in ap (λ (j : ℕ). times j f (viewOf s)) k }
+
+  pub turned : {i : ℕ} {m w : Code} → i < n → Going f n i s m → isMachine w ≡ true → viewOf w ≡ f (viewOf m) → Going f n (i + 1) s w
+  unfolding times
+  turned {i} {m} {w} h g ok e =
+      let k : suc (n - (i + 1)) ≡ n - i = omega arith in
+      record { few = omega arith; ok = ok; rest = ap (times (n - (i + 1)) f) e ∙ ap (λ (j : ℕ). times j f (viewOf m)) k ∙ g .rest }
+
+  pub at-end : {i : ℕ} {m : Code} → n ≤ i → Going f n i s m → viewOf m ≡ times n f (viewOf s)
+  unfolding times
+  at-end {i} {m} h g =
+      let k : 0 ≡ n - i = omega arith in
+      ap (λ (j : ℕ). times j f (viewOf m)) k ∙ g .rest

@@ -1,0 +1,69 @@
+-- Assumes nothing.
+use Prim.Native.Nat.{_-_}
+use native.Mathlib.Omega.{arith}
+use mathlib.Core.Path.{ap, _∙_}
+use denote.Ref.{now}
+use lib.ListN.{length}
+use Rattle.vm.specs.Machine.{Machine}
+use Rattle.vm.specs.Instruction.{stepInstruction}
+use Rattle.vm.specs.Calls.{viewOf, isMachine}
+use Rattle.massey.specs.Machine.{start, times, moving, madeBy, stepsCount}
+use Rattle.massey.proofs.Machines.{start-ok, after-step, Going, at-start, turned, at-end}
+use borrow.Author.Needs.{needs}
+use Rattle.massey.proofs.machine.massey_steps.Statement.{statement}
+use Rattle.massey.proofs.machine.massey_steps.Tie as tie
+
+abbrev move : Machine → Machine
+move = moving (λ v. stepInstruction v .machine)
+
+abbrev Inv-loop : tie.InvT-loop
+Inv-loop image n m₀ i₀ m i = Going move n i m₀ m
+
+abbrev μ-loop : tie.MeasureT-loop
+μ-loop image n m₀ i₀ m i = n - i
+
+started-requires : tie.Need-started-requires Inv-loop μ-loop
+started-requires c κs = search needs
+
+loop-holds : tie.Need-loop-holds Inv-loop μ-loop
+loop-holds c =
+    let a = c .before .before .args in
+    at-start move (a .n) (ap isMachine (c .started .ensures) ∙ start-ok (now (a .image)))
+
+step-instruction-requires : tie.Need-step-instruction-requires Inv-loop μ-loop
+step-instruction-requires c κs = search needs
+
+add-i : tie.Need-add-i Inv-loop μ-loop
+add-i c = search needs
+
+loop-less : tie.Need-loop-less Inv-loop μ-loop
+loop-less c = search needs
+
+loop-again : tie.Need-loop-again Inv-loop μ-loop
+loop-again c =
+    let l = c .before .before .before .loop in
+    let r = c .before .step-instruction .result in
+    let e = c .before .step-instruction .ensures in
+    turned move _ (c .before .before .loop-test .taken) (l .inv) (e .1 .1 .1 (l .inv .ok)) (after-step (l .m) (r .refused) (r .report) (viewOf (r .machine)) (l .inv .ok) (e .0))
+
+returns : tie.Need-returns Inv-loop μ-loop
+unfolding stepsCount
+returns c =
+    let l = c .before .loop in
+    let s = c .before .before in
+    let n = s .before .before .args .n in
+    ap madeBy (at-end move n (c .loop-test .left) (l .inv)) ∙ ap (λ s. madeBy (times n move (viewOf s))) (s .started .ensures)
+
+pub massey-steps-spec : {M : Type 1} → statement M
+massey-steps-spec =
+    tie.close
+    (tie.spec
+    Inv-loop
+    μ-loop
+    started-requires
+    loop-holds
+    step-instruction-requires
+    add-i
+    loop-less
+    loop-again
+    returns)

@@ -1,0 +1,47 @@
+-- The calls that run an image on a new machine and answer how many micro operations it made (01, sections 3 and 4).
+-- Assumes nothing.
+use Prim.Native.Nat.{ℕ, zero, suc, _/_}
+use mathlib.Core.Bool.{cond}
+use mathlib.Core.List.{List, []}
+use lib.Dec.{ltb}
+use lib.ListN.{length}
+use Rattle.encoding.specs.Bytes.{numbers}
+use Rattle.tick.specs.Count.{overCounted}
+use Rattle.vm.specs.declared.machine.Machine.{Machine as Code}
+use Rattle.vm.specs.Machine.{Machine, microStep}
+use Rattle.vm.specs.Instruction.{stepInstruction}
+use Rattle.vm.specs.Run.{run}
+use Rattle.vm.specs.Calls.{viewOf, restarted, imageWords}
+
+-- how many words count of so many bytes
+abbrev pub wordCount : ℕ → ℕ
+wordCount n = cond (ltb (n / 2) 256) (n / 2) 256
+
+-- the words of an image, high byte first; an odd byte at the end is none
+unfoldable pub wordsOf : List ℕ → List ℕ
+wordsOf image = numbers 2 (wordCount (length image)) image
+
+-- a machine just switched on with them
+unfoldable pub start : List ℕ → Code
+start image = restarted (imageWords (wordsOf image)) (wordCount (length image)) 0
+
+-- f, n times
+unfoldable pub times : ℕ → (Machine → Machine) → Machine → Machine
+times zero f m = m
+times (suc n) f m = times n f (f m)
+
+-- a halted machine stays as it is, and so does one that is refused 9
+unfoldable pub moving : (Machine → Machine) → Machine → Machine
+moving next m = cond (m .state .control .halted) m (cond (overCounted (m .counters)) m (next m))
+
+abbrev pub madeBy : Machine → ℕ
+madeBy m = m .counters .«micro_operations»
+
+unfoldable pub runCount : List ℕ → ℕ → ℕ
+runCount image budget = madeBy (run [] 0 budget (viewOf (start image)) .machine)
+
+unfoldable pub stepsCount : List ℕ → ℕ → ℕ
+stepsCount image n = madeBy (times n (moving (λ m. stepInstruction m .machine)) (viewOf (start image)))
+
+unfoldable pub ticksCount : List ℕ → ℕ → ℕ
+ticksCount image n = madeBy (times n (moving microStep) (viewOf (start image)))

@@ -1,0 +1,92 @@
+// A machine that runs a program image, and how much it did. Each call has one call of the machine in
+// it, so that the compiler can put that call's code into the loop.
+ghost use mathlib.Core.Path.{_≡_};
+ghost use Rattle.massey.specs.Machine.{wordCount, start, runCount, stepsCount, ticksCount};
+use encoding::get_words;
+use vm::Begun;
+use vm::Machine;
+
+// How many words there are in so many bytes, at most 256.
+fn word_count(bytes: usize) -> usize
+    ensures { λ r. ⌜ r ≡ wordCount bytes ⌝ }
+{
+    let n = bytes / 2;
+    if n < 256 { n } else { 256 }
+}
+
+// A new machine with the image's words loaded, high byte first; an odd byte at the end is none.
+fn started(image: &[u8]) -> Machine
+    ensures { λ r. ⌜ r ≡ start (now (image .entry)) ⌝ }
+{
+    let n = word_count(image.len());
+    let mut words = [0u16; 256];
+    get_words(image, 0, &mut words[..n]);
+    let new = Machine::new();
+    let served = new.load_image(&words[..n]);
+    served.machine
+}
+
+// The micro operations of a run with that budget and no breakpoints.
+#[no_mangle]
+pub extern "C" fn massey_run(image: &[u8], budget: u64) -> u64
+    ensures { λ r. ⌜ r ≡ runCount (now (image .entry)) budget ⌝ }
+{
+    let m = started(image);
+    let ran = m.run(Begun(budget), b"");
+    let end = ran.machine;
+    end.counters.micro_operations
+}
+
+// The micro operations of `n` instructions, one at a time.
+#[no_mangle]
+pub extern "C" fn massey_steps(image: &[u8], n: u64) -> u64
+    ensures { λ r. ⌜ r ≡ stepsCount (now (image .entry)) n ⌝ }
+{
+    let mut m = started(image);
+    let mut i: u64 = 0;
+    while i < n {
+        let a = m.step_instruction();
+        let next = a.machine;
+        m = next;
+        i += 1;
+    }
+    m.counters.micro_operations
+}
+
+// The micro operations of `n` ticks, one at a time.
+#[no_mangle]
+pub extern "C" fn massey_ticks(image: &[u8], n: u64) -> u64
+    ensures { λ r. ⌜ r ≡ ticksCount (now (image .entry)) n ⌝ }
+{
+    let mut m = started(image);
+    let mut i: u64 = 0;
+    while i < n {
+        let a = m.micro_step();
+        let next = a.machine;
+        m = next;
+        i += 1;
+    }
+    m.counters.micro_operations
+}
+
+// How many of `n` questions whether the machine runs are served after a run: all of them.
+#[no_mangle]
+pub extern "C" fn massey_checks(image: &[u8], budget: u64, n: u64) -> u64
+    ensures { λ r. ⌜ r ≡ n ⌝ }
+{
+    let s = started(image);
+    let ran = s.run(Begun(budget), b"");
+    let mut m = ran.machine;
+    let mut served: u64 = 0;
+    let mut i: u64 = 0;
+    while i < n {
+        let read = m.is_running();
+        if read.refused == 0 {
+            served += 1;
+        }
+        let back = read.machine;
+        m = back;
+        i += 1;
+    }
+    served
+}

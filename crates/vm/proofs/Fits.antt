@@ -1,0 +1,185 @@
+-- From the test of a state to what the ticks need of it and back, and the answers of the calls by their tests.
+-- Assumes nothing.
+use Prim.Native.Nat.{ℕ, zero, suc, _≤_, _-_}
+use native.Mathlib.Omega.{arith}
+use mathlib.Core.Path.{_≡_, refl, ap, sym, _∙_}
+use mathlib.Core.Bool.{Bool, true, false, cond, _&&_}
+use mathlib.Core.List.{List, [], _∷_, map}
+use borrow.Author.Tests.{eq-eqb, ne-eqb, leb-true, le-leb}
+use lib.Dec.{leb}
+use lib.ListN.{length, drop, getD, length-map}
+use Rattle.isa.specs.declared.text.Text.{Text}
+use Rattle.isa.specs.Text.{text}
+use Rattle.disasm.specs.Disassembly.{disassembleText}
+use Rattle.tick.specs.declared.plan.TransferPlan.{TransferPlan}
+use Rattle.tick.specs.Count.{overCounted}
+use Rattle.tick.specs.Lawful.{lawful}
+use Rattle.vm.specs.declared.machine.Machine.{Machine as Code}
+use Rattle.vm.specs.declared.trace.TraceRecord.{TraceRecord}
+use Rattle.vm.specs.declared.transfer.Done.{Done}
+use Rattle.vm.specs.declared.run.RunStop.the-variants.{AlreadyHalted, Refused}
+use Rattle.vm.specs.Trace.{liveTexts, liveLengths, shortTexts, newest}
+use Rattle.vm.specs.Machine.{Machine, nextText, nextDone, microStep}
+use Rattle.vm.specs.Instruction.{Steps, started, steps, stepInstruction, tickTexts, textsFrom}
+use Rattle.vm.specs.Run.{run}
+use Rattle.vm.specs.View.{Parts, view, Fit}
+use Rattle.vm.specs.Refusal.{partsOk, stepRefusalIf, stepRefusal, Sizes}
+use Rattle.vm.specs.Calls.{answered, hasFault, opAfter, microOp, outcomeIf, reportOn, haltedTexts, haltedReport, instructionReport, runOutcome}
+use Rattle.vm.proofs.Lists.{true-false}
+use Rattle.vm.proofs.Newest.{texts-of, trace-length, one-step, made, few}
+
+pub both : (a b : Bool) → a && b ≡ true → (a ≡ true) × (b ≡ true)
+both true b e = (refl, e)
+both false b e = absurd (true-false (sym e))
+
+abbrev pub okOf : Parts → ℕ → Bool
+okOf q n = partsOk (q .core) n (q .touched) (q .lengths)
+
+pub fit : (q : Parts) (n : ℕ) → okOf q n ≡ true → Sizes q → Fit q
+unfolding partsOk
+fit q n e z =
+    let c = q .core in
+    let e1 = both (lawful (c .state .control)) _ e in
+    let e2 = both (leb n 256) _ (e1 .1) in
+    let e3 = both (leb (c .«trace_len») 512) _ (e2 .1) in
+    let e4 = both (shortTexts (liveLengths (c .«trace_start») (c .«trace_len») (q .lengths))) _ (e3 .1) in
+    let e5 = both (leb (c .«touched_len») 256) _ (e4 .1) in
+    record {
+      control = e1 .0;
+      touched = record { count = leb-true (c .«touched_len») 256 (e5 .0); long = z .touched; bytes = z .bytes; differ = e5 .1 };
+      trace = record { count = leb-true (c .«trace_len») 512 (e3 .0); texts = z .texts; numbers = z .numbers; addresses = z .addresses; phases = z .phases; lengths = z .lengths; short = e4 .0 };
+    }
+
+-- what the ticks leave is a machine, where the image's length was one's
+pub lasts : (p q : Parts) (n : ℕ) → okOf p n ≡ true → Fit q → okOf q n ≡ true
+unfolding partsOk
+lasts p q n e f =
+    let size = both (leb n 256) _ (both (lawful (p .core .state .control)) _ e .1) .0 in
+    rw (f .control, size, le-leb _ _ (f .trace .count), f .trace .short, le-leb _ _ (f .touched .count)) (f .touched .differ)
+
+-- ---- the texts of the ticks that were made are the newest of the trace
+
+drop-map : {A B : Type 0} (f : A → B) (n : ℕ) (l : List A) → drop n (map f l) ≡ map f (drop n l)
+drop-map f zero l = refl
+drop-map f (suc n) [] = refl
+drop-map f (suc n) (x ∷ l) = drop-map f n l
+
+abbrev textOf : TraceRecord → Text
+textOf r = r .text
+
+abbrev textsIn : Parts → List Text
+textsIn q = liveTexts (q .core .«trace_start») (q .core .«trace_len») (q .texts) (q .lengths)
+
+newest-texts : (q : Parts) (n : ℕ) → newest n (textsIn q) ≡ map textOf (newest n (view q .trace))
+newest-texts q n =
+    ap (newest n) (sym (texts-of (q .core .«trace_start») (q .core .«trace_len») (q .texts) (q .numbers) (q .addresses) (q .phases) (q .lengths)))
+    ∙ ap (λ (k : ℕ). drop (k - n) (map textOf (view q .trace))) (length-map (view q .trace) textOf)
+    ∙ drop-map textOf (length (view q .trace) - n) (view q .trace)
+
+module _ (f n : ℕ) (p : Parts) {q : Parts} (d : Done) (small : f ≤ 512) (fp : Fit p) (fq : Fit q) (e : _≡_ {A = Steps} (record { machine = view q; ticks = n; done = d }) (steps f (started (view p)))) where
+  long : length (view p .trace) ≤ 512
+  long = rw (trace-length (p .core .«trace_start») (p .core .«trace_len») (p .texts) (p .numbers) (p .addresses) (p .phases) (p .lengths) (fp .trace .count)) (fp .trace .count)
+
+  pub texts-made : newest n (textsIn q) ≡ tickTexts f (view p)
+  texts-made = newest-texts q n ∙ ap (λ (s : Steps). map textOf (newest (s .ticks) (s .machine .trace))) e ∙ made f (view p) small long
+
+  pub ticks-few : (n ≤ f) × (n ≤ q .core .«trace_len»)
+  ticks-few =
+      let k = few f (view p) small long in
+      let t = ap (λ (s : Steps). s .ticks) e in
+      let m = ap (λ (s : Steps). length (s .machine .trace)) e in
+      let l = trace-length (q .core .«trace_start») (q .core .«trace_len») (q .texts) (q .numbers) (q .addresses) (q .phases) (q .lengths) (fq .trace .count) in
+      (omega (arith, k .0, t), omega (arith, k .1, t, m, l))
+
+-- ---- `micro_step` and `step_instruction` by their tests
+
+no-refusal : (ok halted far : Bool) → stepRefusalIf ok halted far ≡ 0 → ok ≡ true
+no-refusal true halted far e = refl
+no-refusal false halted far e = absurd (omega (arith, e))
+
+pub served-ok : (q : Parts) (n r : ℕ) → r ≡ stepRefusal (q .core) n (q .touched) (q .lengths) → r ≡ 0 → okOf q n ≡ true
+unfolding stepRefusal
+served-ok q n r e z = no-refusal (okOf q n) (q .core .state .control .halted) (overCounted (q .core .counters)) (sym e ∙ z)
+
+module _ {A : Type 0} (n k : ℕ) (h : Bool) (a still moving : A) (m next : Machine) (e : n ≡ k) where
+  pub refuses : (n ≡ 0 → ⊥) → answered n a m ≡ outcomeIf k h still moving m next
+  refuses z = rw (← e, ne-eqb n 0 z)
+
+  pub stays : n ≡ 0 → h ≡ true → a ≡ still → answered n a m ≡ outcomeIf k h still moving m next
+  stays z t s = rw (← e, eq-eqb n 0 z, t, s)
+
+  pub moves : {m' : Machine} → n ≡ 0 → h ≡ false → a ≡ moving → m' ≡ next → answered n a m' ≡ outcomeIf k h still moving m next
+  moves z t s w = rw (← e, eq-eqb n 0 z, t, s, w)
+
+-- ---- `run` by its tests
+
+module _ (b : List ℕ) (n : ℕ) (m : Machine) where
+  pub run-refused : (ok : Bool) → ok ≡ false → record { stop = Refused 8; executed = 0; machine = m } ≡ runOutcome ok b n m
+  unfolding runOutcome
+  run-refused true e = absurd (true-false e)
+  run-refused false e = refl
+
+  pub run-halted : (ok : Bool) → ok ≡ true → m .state .control .halted ≡ true → record { stop = AlreadyHalted; executed = 0; machine = m } ≡ runOutcome ok b n m
+  unfolding runOutcome
+  run-halted true e h = sym (λ i. cond (h i) (record { stop = AlreadyHalted; executed = 0; machine = m }) (run b 0 n m))
+  run-halted false e h = absurd (true-false (sym e))
+
+  pub run-served : (ok : Bool) → ok ≡ true → m .state .control .halted ≡ false → run b 0 n m ≡ runOutcome ok b n m
+  unfolding runOutcome
+  run-served true e h = sym (λ i. cond (h i) (record { stop = AlreadyHalted; executed = 0; machine = m }) (run b 0 n m))
+  run-served false e h = absurd (true-false (sym e))
+
+-- ---- the struct, rebuilt from its parts
+
+abbrev pub withParts : Code → Parts → Code
+withParts m q = record {
+  memory = q .memory;
+  registers = q .registers;
+  state = q .core .state;
+  counters = q .core .counters;
+  texts = q .texts;
+  numbers = q .numbers;
+  addresses = q .addresses;
+  phases = q .phases;
+  lengths = q .lengths;
+  «trace_start» = q .core .«trace_start»;
+  «trace_len» = q .core .«trace_len»;
+  touched = q .touched;
+  «touched_len» = q .core .«touched_len»;
+  image = m .image;
+  «image_len» = m .«image_len»;
+  «history_len» = m .«history_len»;
+}
+
+-- ---- what the two calls report
+
+-- the one text of one tick
+module _ (n : ℕ) (p : Parts) {q : Parts} (d : Done) (fp : Fit p) (fq : Fit q) (e : _≡_ {A = Steps} (record { machine = view q; ticks = n; done = d }) (steps 1 (started (view p)))) where
+  one : n ≡ 1
+  one = ap (λ (s : Steps). s .ticks) (e ∙ one-step (view p))
+
+  pub has-one : 1 ≤ q .core .«trace_len»
+  has-one = omega (arith, one, ticks-few 1 n p d (omega arith) fp fq e .1)
+
+  pub first-text : getD (newest 1 (textsIn q)) 0 (text []) ≡ nextText (view p)
+  unfolding tickTexts
+  first-text =
+      ap (λ (k : ℕ). getD (newest k (textsIn q)) 0 (text [])) (sym one)
+      ∙ ap (λ (t : List Text). getD t 0 (text [])) (texts-made 1 n p d (omega arith) fp fq e)
+
+pub made-op : (v : Machine) {m : Machine} {n : ℕ} {d : Done} {x : Text} → _≡_ {A = Steps} (record { machine = m; ticks = n; done = d }) (record { machine = microStep v; ticks = 1; done = nextDone v }) → x ≡ nextText v
+    → opAfter (v .state .control .tick) (m .state) d x ≡ microOp v
+unfolding microOp
+made-op v e x = (λ i. opAfter (v .state .control .tick) (e i .machine .state) (e i .done) (x i))
+
+pub still-report : (v : Machine) {x : Text} {y : TransferPlan} {f : Bool} → let w = getD (v .memory) (v .state .control .pc) 0 in x ≡ text (disassembleText w) → y ≡ haltedTexts → f ≡ hasFault (v .state .fault)
+    → record { address = v .state .control .pc; word = w; text = x; «micro_ops» = y; halted = true; faulted = f } ≡ haltedReport v
+unfolding haltedReport
+still-report v a b c = λ i. record { address = v .state .control .pc; word = getD (v .memory) (v .state .control .pc) 0; text = a i; «micro_ops» = b i; halted = true; faulted = c i }
+
+pub made-report : (v : Machine) {m : Machine} {n : ℕ} {d : Done} {h : Bool} {x : Text} {y : TransferPlan} → let w = getD (v .memory) (v .state .control .pc) 0 in record { machine = m; ticks = n; done = d } ≡ steps 7 (started v) → h ≡ m .state .control .halted → x ≡ text (disassembleText w) → y ≡ textsFrom (tickTexts 7 v)
+    → record { address = v .state .control .pc; word = w; text = x; «micro_ops» = y; halted = h; faulted = d .faulted } ≡ instructionReport v
+unfolding instructionReport stepInstruction
+made-report v {d = d} e h x y =
+    (λ i. record { address = v .state .control .pc; word = getD (v .memory) (v .state .control .pc) 0; text = x i; «micro_ops» = y i; halted = h i; faulted = d .faulted })
+    ∙ (λ i. reportOn v (textsFrom (tickTexts 7 v)) (e i .machine .state .control .halted) (e i .done .faulted))

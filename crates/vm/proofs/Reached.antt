@@ -1,0 +1,65 @@
+-- A machine from `new` by served calls is never refused 8.
+-- Assumes nothing.
+use Prim.Native.Nat.{ℕ, _≤_}
+use native.Mathlib.Omega.{arith}
+use mathlib.Core.Path.{_≡_, refl, ap}
+use mathlib.Core.Bool.{Bool, true, false, cond}
+use mathlib.Core.List.{List, []}
+use borrow.Author.Tests.{leb-true, ltb-true}
+use lib.Dec.{eqb, leb, ltb}
+use lib.ListN.{length}
+use Rattle.tick.specs.Lawful.{lawful}
+use Rattle.vm.specs.declared.machine.Machine.{Machine as Code}
+use Rattle.vm.specs.Refusal.{partsOk, refusal}
+use Rattle.vm.specs.Calls.{isMachine, refusalOf, restarted, imageWords, serve, loaded, reset, clear, clearHistory}
+use Rattle.vm.proofs.Fits.{both}
+use Rattle.vm.proofs.Starts.{new-ok}
+
+-- what a call answers where the machine is one
+served : (m new : Code) → isMachine m ≡ true → serve (refusalOf m) new m .machine ≡ new
+unfolding serve refusal
+served m new e = ap (λ (b : Bool). cond (eqb (cond b 0 8) 0) new m) e
+
+size : (m : Code) → isMachine m ≡ true → m .«image_len» ≤ 256
+unfolding partsOk
+size m e = leb-true (m .«image_len») 256 (both (leb (m .«image_len») 256) _ (both (lawful (m .state .control)) _ e .1) .0)
+
+least : (n : ℕ) → cond (ltb n 256) n 256 ≤ 256
+least n = go (ltb n 256) refl
+  where
+    go : (b : Bool) → ltb n 256 ≡ b → cond b n 256 ≤ 256
+    go true e = omega (arith, ltb-true n 256 e)
+    go false e = omega arith
+
+pub loaded-lasts : (image : List ℕ) (m : Code) → isMachine m ≡ true → isMachine (loaded image m .machine) ≡ true
+unfolding loaded
+loaded-lasts image m e = rw (served m _ e) (new-ok (imageWords image) _ (m .«history_len») (least (length image)))
+
+pub reset-lasts : (m : Code) → isMachine m ≡ true → isMachine (reset m .machine) ≡ true
+unfolding reset
+reset-lasts m e = rw (served m _ e) (new-ok (m .image) (m .«image_len») (m .«history_len») (size m e))
+
+pub clear-lasts : (m : Code) → isMachine m ≡ true → isMachine (clear m .machine) ≡ true
+unfolding clear
+clear-lasts m e = rw (served m _ e) (new-ok (imageWords []) 0 0 (omega arith))
+
+pub clear-history-lasts : (m : Code) → isMachine m ≡ true → isMachine (clearHistory m .machine) ≡ true
+unfolding clearHistory
+clear-history-lasts m e = rw (served m _ e) e
+
+-- by which calls a machine is reached; `micro_step`, `step_instruction` and `run` promise `lasting`, and the readings leave the machine as it is
+pub data Reached : Code → Type 0 where
+  new : Reached (restarted (imageWords []) 0 0)
+  load : (image : List ℕ) (m : Code) → Reached m → Reached (loaded image m .machine)
+  again : (m : Code) → Reached m → Reached (reset m .machine)
+  cleared : (m : Code) → Reached m → Reached (clear m .machine)
+  forgotten : (m : Code) → Reached m → Reached (clearHistory m .machine)
+  moved : (m n : Code) → Reached m → (isMachine m ≡ true → isMachine n ≡ true) → Reached n
+
+pub never-refused : (m : Code) → Reached m → isMachine m ≡ true
+never-refused _ new = new-ok (imageWords []) 0 0 (omega arith)
+never-refused _ (load image m r) = loaded-lasts image m (never-refused m r)
+never-refused _ (again m r) = reset-lasts m (never-refused m r)
+never-refused _ (cleared m r) = clear-lasts m (never-refused m r)
+never-refused _ (forgotten m r) = clear-history-lasts m (never-refused m r)
+never-refused _ (moved m n r lasting) = lasting (never-refused m r)

@@ -1,0 +1,153 @@
+-- One tick: the register that it writes, the length of its text, and that what the calls of one tick say is `microStep`.
+-- Assumes nothing.
+use Prim.Native.Nat.{ℕ, zero, suc, _+_, _≤_, _<_}
+use native.Mathlib.Omega.{arith}
+use mathlib.Core.Path.{_≡_, _∙_}
+use mathlib.Core.Bool.{Bool, true, false, cond, not, _&&_}
+use mathlib.Core.List.{List}
+use lib.Dec.{leb, lit≤}
+use lib.ListN.{length, length-map}
+use Rattle.isa.specs.declared.opcode.Opcode.the-variants.{LoadImmediate, LoadRegister, LoadMemory, StoreMemory, Add, Negate, ShiftRight, ShiftLeft, And, Or, Xor, Jump, Halt}
+use Rattle.isa.specs.declared.opcode.Decoded.{Decoded}
+use Rattle.isa.specs.declared.opcode.Decoded.the-variants.{Known, Unknown}
+use Rattle.isa.specs.declared.text.Text.{Text}
+use Rattle.isa.specs.Text.{ascii, text}
+use Rattle.isa.specs.Word.{decodeWord}
+use Rattle.isa.specs.Format.{hex4, fill, fillByte}
+use Rattle.tick.specs.declared.control.State.{State}
+use Rattle.tick.specs.declared.control.Operands.{Operands}
+use Rattle.tick.specs.declared.control.Tick.{Tick}
+use Rattle.tick.specs.declared.counters.Counters.{Counters}
+use Rattle.tick.specs.Plan.{fetchText, loadText, storeText, executeText, tickTemplate, tickText}
+use Rattle.tick.specs.Tick.{decodeAs, decodeTick, executeTick, endedTick, laterTick, onward, tickOf}
+use Rattle.tick.specs.Count.{countTick}
+use Rattle.vm.specs.declared.trace.TraceRecord.{TraceRecord}
+use Rattle.vm.specs.Trace.{pushed}
+use Rattle.vm.specs.Touched.{touchedBy}
+use Rattle.vm.specs.Machine.{Machine, operandsOf, registerOf, registersAfter, memoryAfter, phaseNumber, nextTextOn, nextText, afterTick, microStep, doneBy, nextDone}
+
+-- ---- a register that a tick writes is one of sixteen
+
+execute-named : (d : Decoded) (n : ℕ) (s : State) (o : Operands) → registerOf (executeTick d n s o .write) < 16
+unfolding executeTick
+execute-named (Known LoadImmediate) n s o = omega arith
+execute-named (Known LoadRegister) n s o = omega arith
+execute-named (Known LoadMemory) zero s o = omega arith
+execute-named (Known LoadMemory) (suc zero) s o = omega arith
+execute-named (Known LoadMemory) (suc (suc n)) s o = omega arith
+execute-named (Known StoreMemory) zero s o = omega arith
+execute-named (Known StoreMemory) (suc zero) s o = omega arith
+execute-named (Known StoreMemory) (suc (suc n)) s o = omega arith
+execute-named (Known Add) n s o = omega arith
+execute-named (Known Negate) n s o = omega arith
+execute-named (Known ShiftRight) n s o = omega arith
+execute-named (Known ShiftLeft) n s o = omega arith
+execute-named (Known And) n s o = omega arith
+execute-named (Known Or) n s o = omega arith
+execute-named (Known Xor) n s o = omega arith
+execute-named (Known Jump) n s o = omega arith
+execute-named (Known Halt) n s o = omega arith
+execute-named Unknown n s o = omega arith
+
+decode-named : (d : Decoded) (s : State) → registerOf (decodeAs d s .write) < 16
+decode-named (Known LoadImmediate) s = omega arith
+decode-named (Known LoadRegister) s = omega arith
+decode-named (Known LoadMemory) s = omega arith
+decode-named (Known StoreMemory) s = omega arith
+decode-named (Known Add) s = omega arith
+decode-named (Known Negate) s = omega arith
+decode-named (Known ShiftRight) s = omega arith
+decode-named (Known ShiftLeft) s = omega arith
+decode-named (Known And) s = omega arith
+decode-named (Known Or) s = omega arith
+decode-named (Known Xor) s = omega arith
+decode-named (Known Jump) s = omega arith
+decode-named (Known Halt) s = omega arith
+decode-named Unknown s = omega arith
+
+onward-named : (n : ℕ) (q : Tick) → registerOf (q .write) < 16 → registerOf (onward n q .write) < 16
+onward-named n q h = go (leb (q .state .control .«execute_ticks») (n + 1))
+  where
+    go : (b : Bool) → registerOf (cond b (endedTick q) (laterTick q) .write) < 16
+    go true = h
+    go false = h
+
+pub named : (k : ℕ) (s : State) (o : Operands) → registerOf (tickOf k s o .write) < 16
+unfolding tickOf decodeTick
+named zero s o = omega arith
+named (suc zero) s o = omega arith
+named (suc (suc zero)) s o = omega arith
+named (suc (suc (suc zero))) s o = decode-named (decodeWord (s .control .ir)) s
+named (suc (suc (suc (suc n)))) s o = onward-named n (executeTick (decodeWord (s .control .ir)) n s o) (execute-named (decodeWord (s .control .ir)) n s o)
+
+-- ---- no text of a tick is over 32 bytes
+
+execute-fits : (d : Decoded) (n : ℕ) (taken : Bool) → length (ascii (executeText d n taken)) ≤ 32
+unfolding executeText loadText storeText
+execute-fits (Known LoadImmediate) n taken = lit≤ tt
+execute-fits (Known LoadRegister) n taken = lit≤ tt
+execute-fits (Known LoadMemory) zero taken = lit≤ tt
+execute-fits (Known LoadMemory) (suc zero) taken = lit≤ tt
+execute-fits (Known LoadMemory) (suc (suc n)) taken = lit≤ tt
+execute-fits (Known StoreMemory) zero taken = lit≤ tt
+execute-fits (Known StoreMemory) (suc zero) taken = lit≤ tt
+execute-fits (Known StoreMemory) (suc (suc n)) taken = lit≤ tt
+execute-fits (Known Add) n taken = lit≤ tt
+execute-fits (Known Negate) n taken = lit≤ tt
+execute-fits (Known ShiftRight) n taken = lit≤ tt
+execute-fits (Known ShiftLeft) n taken = lit≤ tt
+execute-fits (Known And) n taken = lit≤ tt
+execute-fits (Known Or) n taken = lit≤ tt
+execute-fits (Known Xor) n taken = lit≤ tt
+execute-fits (Known Jump) n true = lit≤ tt
+execute-fits (Known Jump) n false = lit≤ tt
+execute-fits (Known Halt) n taken = lit≤ tt
+execute-fits Unknown n taken = lit≤ tt
+
+template-fits : (t : ℕ) (taken : Bool) (w : ℕ) → length (ascii (tickTemplate t taken w)) ≤ 32
+unfolding tickTemplate fetchText
+template-fits zero taken w = lit≤ tt
+template-fits (suc zero) taken w = lit≤ tt
+template-fits (suc (suc zero)) taken w = lit≤ tt
+template-fits (suc (suc (suc zero))) taken w = lit≤ tt
+template-fits (suc (suc (suc (suc n)))) taken w = execute-fits (decodeWord w) n taken
+
+text-fits : (t : ℕ) (taken : Bool) (w : ℕ) → text (tickText t taken w) .len ≤ 32
+unfolding text tickText fill
+text-fits t taken w = rw (length-map (ascii (tickTemplate t taken w)) (fillByte (hex4 w))) (template-fits t taken w)
+
+pub short-text : (t : ℕ) (taken : Bool) (w : ℕ) {x : Text} → x ≡ text (tickText t taken w) → x .len ≤ 32
+short-text t taken w e = rw e (text-fits t taken w)
+
+-- ---- the calls of one tick
+
+module _ (m : Machine) (o : Operands) (x : Text) (ph : ℕ) (q : Tick) (eo : o ≡ operandsOf (m .state) (m .memory) (m .registers)) (eq : q ≡ tickOf (m .state .control .tick) (m .state) o) where
+  pub is-tick : (k : Counters) {m' r' l' : List ℕ} {t' : List TraceRecord}
+      → x ≡ nextTextOn (m .state) o
+      → ph ≡ phaseNumber (m .state .control .tick)
+      → k ≡ countTick (q .bus) (q .completed) (m .counters)
+      → m' ≡ memoryAfter (q .bus) (m .memory)
+      → r' ≡ registersAfter (q .write) (m .registers)
+      → t' ≡ pushed (record { number = k .«micro_operations»; address = q .state .control .«instruction_address»; phase = ph; text = x }) (m .trace)
+      → l' ≡ touchedBy (q .bus) (m .touched)
+      → record { state = q .state; counters = k; memory = m'; registers = r'; trace = t'; touched = l' } ≡ microStep m
+  unfolding microStep nextText
+  is-tick k ex eph ek em er et el =
+      (λ i. record { state = q .state; counters = k; memory = em i; registers = er i; trace = et i; touched = el i })
+      ∙ (λ i. record {
+        state = q .state;
+        counters = ek i;
+        memory = memoryAfter (q .bus) (m .memory);
+        registers = registersAfter (q .write) (m .registers);
+        trace = pushed (record { number = ek i .«micro_operations»; address = q .state .control .«instruction_address»; phase = eph i; text = x }) (m .trace);
+        touched = touchedBy (q .bus) (m .touched);
+      })
+      ∙ (λ i. afterTick m (ex i) (eq i))
+      ∙ (λ i. afterTick m (nextTextOn (m .state) (eo i)) (tickOf (m .state .control .tick) (m .state) (eo i)))
+
+  pub is-done : {f : Bool} → f ≡ q .state .control .halted && not (q .completed) → record { bus = q .bus; write = q .write; faulted = f } ≡ nextDone m
+  unfolding nextDone
+  is-done e =
+      (λ i. record { bus = q .bus; write = q .write; faulted = e i })
+      ∙ (λ i. doneBy (eq i))
+      ∙ (λ i. doneBy (tickOf (m .state .control .tick) (m .state) (eo i)))

@@ -1,0 +1,83 @@
+use mathlib.Core.Path.{ap, _∙_}
+use denote.Ref.{now}
+use lib.Dec.{eqb}
+use borrow.Author.Needs.{needs}
+use Rattle.tick.specs.declared.control.Tick.{Tick}
+use Rattle.tick.specs.Lawful.{lawful}
+use Rattle.tick.proofs.Lawfuls.{tick-next}
+use Rattle.vm.specs.View.{parts, view}
+use Rattle.vm.proofs.Ticks.{named, short-text, is-tick, is-done}
+use Rattle.vm.proofs.transfer.tick_parts.Statement.{statement}
+use Rattle.vm.proofs.transfer.tick_parts.Tie as tie
+
+read-operands-requires : tie.Need-read-operands-requires
+read-operands-requires c κs = search needs
+
+tick-text-requires : tie.Need-tick-text-requires
+tick-text-requires c κs = search needs
+
+phase-number-requires : tie.Need-phase-number-requires
+phase-number-requires c κs = search needs
+
+tick-of-requires : tie.Need-tick-of-requires
+tick-of-requires c κs = search needs
+
+count-tick-requires : tie.Need-count-tick-requires
+count-tick-requires c κs = search needs
+
+set-register-requires : tie.Need-set-register-requires
+set-register-requires c κs =
+    let s = (c .before .before .before .before .before .before .before .before .before .before .before) in let a = s .args in
+    rw ((c .before .before .before) .tick-of .ensures) (named (a .s .state .control .tick) (a .s .state) ((c .before .before .before .before .before .before .before) .read-operands .result))
+
+set-word-requires : tie.Need-set-word-requires
+set-word-requires c κs = search needs
+
+touch-requires : tie.Need-touch-requires
+touch-requires c κs = (c .before .before .before .before .before .before .before .before .before .before .before .before .before .before .before) .pre .1 .touched
+
+push-trace-requires : tie.Need-push-trace-requires
+push-trace-requires c κs =
+    let s = (c .before .before .before .before .before .before .before .before .before .before .before .before .before .before .before .before .before .before .before .before .before) in let a = s .args in
+    let o = (c .before .before .before .before .before .before .before .before .before .before .before .before .before .before .before .before .before) .read-operands .result in
+    (short-text (a .s .state .control .tick) (eqb (o .x) (o .zero)) (a .s .state .control .ir) ((c .before .before .before .before .before .before .before .before .before .before .before .before .before .before .before) .tick-text .ensures), s .pre .1 .trace)
+
+is-fault-requires : tie.Need-is-fault-requires
+is-fault-requires c κs = search needs
+
+returns : tie.Need-returns
+returns c =
+    let s = (c .before .before .before .before .before .before .before .before .before .before .before .before .before .before .before .before .before .before .before .before .before .before .before) in let a = s .args in
+    let o = (c .before .before .before .before .before .before .before .before .before .before .before .before .before .before .before .before .before .before .before) .read-operands in
+    let x = (c .before .before .before .before .before .before .before .before .before .before .before .before .before .before .before .before .before) .tick-text in
+    let h = (c .before .before .before .before .before .before .before .before .before .before .before .before .before .before .before .before) .phase-number in
+    let t = (c .before .before .before .before .before .before .before .before .before .before .before .before .before .before .before) .tick-of in
+    let k = (c .before .before .before .before .before .before .before .before .before .before .before .before .before) .count-tick in
+    let w = (c .before .before .before .before .before .before .before .before .before .before .before) .set-register in
+    let m = (c .before .before .before .before .before .before .before .before .before) .set-word in
+    let u = (c .before .before .before .before .before .before .before) .touch in
+    let q = (c .before) .push-trace in
+    let v = view (parts (a .s) (now (a .memory)) (now (a .registers)) (now (a .touched)) (now (a .texts)) (now (a .numbers)) (now (a .addresses)) (now (a .phases)) (now (a .lengths))) in
+    let n = tick-next (a .s .state) (o .result) (s .pre .1 .control) (s .pre .0) in
+    let e = ap (λ (z : Tick). z .state .control) (t .ensures) in (
+      is-tick v (o .result) (x .result) (h .result) (t .result) (o .ensures) (t .ensures) (k .result) (x .ensures) (h .ensures) (k .ensures) (m .ensures) (w .ensures) (q .ensures .0) (u .ensures .0),
+      is-done v (o .result) (x .result) (h .result) (t .result) (o .ensures) (t .ensures) (c .is-fault .ensures),
+      record { control = ap lawful e ∙ n .machine; touched = u .ensures .1; trace = q .ensures .1 },
+      λ z. ap (λ (y : Tick). y .state .control .halted) (t .ensures) ∙ n .goes (λ y. z (ap (λ (b : Tick). b .state .control .tick) (t .ensures) ∙ y)) .1,
+    )
+
+pub tick-parts-spec : {M : Type 1} → statement M
+tick-parts-spec =
+    tie.close
+    (tie.spec
+    read-operands-requires
+    tick-text-requires
+    phase-number-requires
+    tick-of-requires
+    count-tick-requires
+    set-register-requires
+    set-word-requires
+    touch-requires
+    push-trace-requires
+    is-fault-requires
+    returns)

@@ -1,0 +1,243 @@
+-- The calls on a machine (01, sections 1, 4, 7 and 10; vm.rs): what each answers, and the machine that it leaves.
+-- Assumes nothing.
+use Prim.Native.Nat.{ℕ, _-_}
+use mathlib.Core.Bool.{Bool, true, false, cond}
+use mathlib.Core.List.{List, [], _∷_, _++_}
+use lib.Dec.{eqb, ltb}
+use lib.ListN.{length, take, getD, replicate}
+use Rattle.isa.specs.declared.digits.ByteOption.{ByteOption}
+use Rattle.isa.specs.declared.digits.ByteOption.the-variants.{Some, None}
+use Rattle.isa.specs.declared.text.Text.{Text}
+use Rattle.isa.specs.Text.{ascii, text}
+use Rattle.isa.specs.Word.{instruction}
+use Rattle.disasm.specs.Disassembly.{disassembleText}
+use Rattle.tick.specs.declared.control.State.{State}
+use Rattle.tick.specs.declared.control.Fault.{Fault}
+use Rattle.tick.specs.declared.control.Fault.the-variants.{Healthy, UnknownInstruction, StepBudgetExhausted}
+use Rattle.tick.specs.declared.control.BusTransfer.the-variants.{Idle}
+use Rattle.tick.specs.declared.control.AluRecord.the-variants.{Unused}
+use Rattle.tick.specs.declared.control.RegisterWrite.the-variants.{Unwritten}
+use Rattle.tick.specs.declared.plan.Phase.the-variants.{Halt}
+use Rattle.tick.specs.declared.plan.TransferPlan.{TransferPlan}
+use Rattle.tick.specs.Plan.{phaseOf}
+use Rattle.vm.specs.declared.machine.Machine.{Machine as Code}
+use Rattle.vm.specs.declared.transfer.Core.{Core}
+use Rattle.vm.specs.declared.transfer.Done.{Done}
+use Rattle.vm.specs.declared.machine.Served.{Served}
+use Rattle.vm.specs.declared.micro.MicroOp.{MicroOp}
+use Rattle.vm.specs.declared.report.InstructionReport.{InstructionReport}
+use Rattle.vm.specs.declared.readings.NumberRead.{NumberRead}
+use Rattle.vm.specs.declared.readings.RunningRead.{RunningRead}
+use Rattle.vm.specs.declared.readings.InstructionRead.{InstructionRead}
+use Rattle.vm.specs.declared.readings.TextRead.{TextRead}
+use Rattle.vm.specs.declared.readings.PositionRead.{PositionRead}
+use Rattle.vm.specs.declared.readings.ImageRead.{ImageRead}
+use Rattle.vm.specs.declared.run.RunStop.the-variants.{AlreadyHalted, Refused}
+use Rattle.vm.specs.Machine.{Machine, nextText, nextDone, microStep}
+use Rattle.vm.specs.Instruction.{stepInstruction, tickTexts, textsFrom}
+use Rattle.vm.specs.Run.{RunEnd, run}
+use Rattle.vm.specs.View.{Parts, parts, view}
+use Rattle.vm.specs.Refusal.{partsOk, refusal, stepRefusal}
+
+-- ---- the struct and the machine that it holds
+
+abbrev pub coreOf : Code → Core
+coreOf m = record { state = m .state; counters = m .counters; «touched_len» = m .«touched_len»; «trace_start» = m .«trace_start»; «trace_len» = m .«trace_len» }
+
+abbrev pub partsOf : Code → Parts
+partsOf m = parts (coreOf m) (m .memory) (m .registers) (m .touched) (m .texts) (m .numbers) (m .addresses) (m .phases) (m .lengths)
+
+abbrev pub viewOf : Code → Machine
+viewOf m = view (partsOf m)
+
+-- what no tick reads or writes
+pub record Rest : Type 0 where
+  pub image : List ℕ
+  pub length : ℕ
+  pub history : ℕ
+
+abbrev pub restOf : Code → Rest
+restOf m = record { image = m .image; length = m .«image_len»; history = m .«history_len» }
+
+-- ---- section 1: the refusals of a state
+
+abbrev pub isMachine : Code → Bool
+isMachine m = partsOk (coreOf m) (m .«image_len») (m .touched) (m .lengths)
+
+abbrev pub refusalOf : Code → ℕ
+refusalOf m = refusal (coreOf m) (m .«image_len») (m .touched) (m .lengths)
+
+abbrev pub stepRefusalOf : Code → ℕ
+stepRefusalOf m = stepRefusal (coreOf m) (m .«image_len») (m .touched) (m .lengths)
+
+-- ---- the calls that start a machine anew (section 7: `reset` and `load_image` keep the history, `clear` drops it)
+
+-- a machine just switched on: image, its length, the number of history records
+unfoldable pub restarted : List ℕ → ℕ → ℕ → Code
+restarted image n history = record {
+  memory = image;
+  registers = replicate 16 0;
+  state = record {
+    control = record { pc = 0; ir = 0; mar = 0; mdr = 0; «instruction_address» = 0; tick = 0; «execute_ticks» = 0; halted = false };
+    fault = Healthy;
+    «last_transfer» = Idle;
+    «last_alu» = Unused;
+  };
+  counters = record { instructions = 0; «micro_operations» = 0; «bus_reads» = 0; «bus_writes» = 0 };
+  texts = replicate 16384 0;
+  numbers = replicate 512 0;
+  addresses = replicate 512 0;
+  phases = replicate 512 0;
+  lengths = replicate 512 0;
+  «trace_start» = 0;
+  «trace_len» = 0;
+  touched = replicate 256 0;
+  «touched_len» = 0;
+  image = image;
+  «image_len» = n;
+  «history_len» = history;
+}
+
+-- the first 256 words, zeros to the last address
+unfoldable pub imageWords : List ℕ → List ℕ
+imageWords image = take 256 image ++ replicate (256 - length image) 0
+
+-- the new machine where the call is served, else the old one
+unfoldable pub serve : ℕ → Code → Code → Served
+serve n new old = record { refused = n; machine = cond (eqb n 0) new old }
+
+unfoldable pub loaded : List ℕ → Code → Served
+loaded image m = serve (refusalOf m) (restarted (imageWords image) (cond (ltb (length image) 256) (length image) 256) (m .«history_len»)) m
+
+unfoldable pub reset : Code → Served
+reset m = serve (refusalOf m) (restarted (m .image) (m .«image_len») (m .«history_len»)) m
+
+unfoldable pub clear : Code → Served
+clear m = serve (refusalOf m) (restarted (imageWords []) 0 0) m
+
+abbrev pub withoutHistory : Code → Code
+withoutHistory m = record {
+  memory = m .memory;
+  registers = m .registers;
+  state = m .state;
+  counters = m .counters;
+  texts = m .texts;
+  numbers = m .numbers;
+  addresses = m .addresses;
+  phases = m .phases;
+  lengths = m .lengths;
+  «trace_start» = m .«trace_start»;
+  «trace_len» = m .«trace_len»;
+  touched = m .touched;
+  «touched_len» = m .«touched_len»;
+  image = m .image;
+  «image_len» = m .«image_len»;
+  «history_len» = 0;
+}
+
+unfoldable pub clearHistory : Code → Served
+clearHistory m = serve (refusalOf m) (withoutHistory m) m
+
+-- ---- the calls that read: the refusal or 0, and the value or zeros
+
+abbrev pub numberRead : ℕ → ℕ → Code → NumberRead
+numberRead n v m = record { refused = n; number = cond (eqb n 0) v 0; machine = m }
+
+abbrev pub runningRead : ℕ → Bool → Code → RunningRead
+runningRead n v m = record { refused = n; running = cond (eqb n 0) v false; machine = m }
+
+abbrev pub instructionRead : ℕ → ℕ → Code → InstructionRead
+instructionRead n w m = record { refused = n; instruction = instruction (cond (eqb n 0) w 0); machine = m }
+
+abbrev pub textRead : ℕ → List ℕ → Code → TextRead
+textRead n t m = record { refused = n; text = text (cond (eqb n 0) t []); machine = m }
+
+-- none between instructions and once halted, else the transfer that was just made
+abbrev pub positionOf : Bool → ℕ → ByteOption
+positionOf halted t = cond halted None (cond (eqb t 0) None (Some (t - 1)))
+
+abbrev pub positionRead : ℕ → ByteOption → Code → PositionRead
+positionRead n p m = record { refused = n; position = cond (eqb n 0) p None; machine = m }
+
+abbrev pub imageRead : ℕ → Code → ImageRead
+imageRead n m = record { refused = n; words = cond (eqb n 0) (m .image) (replicate 256 0); len = cond (eqb n 0) (m .«image_len») 0; machine = m }
+
+-- ---- `micro_step` and `step_instruction`
+
+-- a number alone, or an answer; and the machine that is left
+pub data Outcome (A : Type 0) : Type 0 where
+  refused : ℕ → Machine → Outcome A
+  served : A → Machine → Outcome A
+
+abbrev pub answered : {A : Type 0} → ℕ → A → Machine → Outcome A
+answered n a m = cond (eqb n 0) (served a m) (refused n m)
+
+abbrev pub hasFault : Fault → Bool
+hasFault Healthy = false
+hasFault (UnknownInstruction w a) = true
+hasFault (StepBudgetExhausted w a) = true
+
+-- a halted machine is served: it answers "halted"
+abbrev pub haltedOp : State → MicroOp
+haltedOp s = record {
+  text = text (ascii "halted");
+  phase = Halt;
+  «ends_instruction» = true;
+  halts = true;
+  faulted = hasFault (s .fault);
+  bus = Idle;
+  write = Unwritten;
+  address = s .control .pc;
+}
+
+-- the number of a tick, the state after it, what it did, its text
+abbrev pub opAfter : ℕ → State → Done → Text → MicroOp
+opAfter t s d x = record {
+  text = x;
+  phase = phaseOf t;
+  «ends_instruction» = eqb (s .control .tick) 0;
+  halts = s .control .halted;
+  faulted = d .faulted;
+  bus = d .bus;
+  write = d .write;
+  address = s .control .«instruction_address»;
+}
+
+-- the transfer that is reported, of a running machine
+unfoldable pub microOp : Machine → MicroOp
+microOp m = opAfter (m .state .control .tick) (microStep m .state) (nextDone m) (nextText m)
+
+-- by the refusal, and whether it is halted
+abbrev pub outcomeIf : {A : Type 0} → ℕ → Bool → A → A → Machine → Machine → Outcome A
+outcomeIf n halted still moving m next = cond (eqb n 0) (cond halted (served still m) (served moving next)) (refused n m)
+
+unfoldable pub microOutcome : ℕ → Machine → Outcome MicroOp
+microOutcome n m = outcomeIf n (m .state .control .halted) (haltedOp (m .state)) (microOp m) m (microStep m)
+
+-- the address and the word at PC, the texts of the ticks, whether the last one halted or faulted
+abbrev pub reportOn : Machine → TransferPlan → Bool → Bool → InstructionReport
+reportOn m x h f =
+    let pc = m .state .control .pc in
+    let w = getD (m .memory) pc 0 in
+    record { address = pc; word = w; text = text (disassembleText w); «micro_ops» = x; halted = h; faulted = f }
+
+abbrev pub haltedTexts : TransferPlan
+haltedTexts = textsFrom (text (ascii "halted") ∷ [])
+
+unfoldable pub haltedReport : Machine → InstructionReport
+haltedReport m = reportOn m haltedTexts true (hasFault (m .state .fault))
+
+unfoldable pub instructionReport : Machine → InstructionReport
+instructionReport m = let s = stepInstruction m in reportOn m (textsFrom (tickTexts 7 m)) (s .machine .state .control .halted) (s .done .faulted)
+
+unfoldable pub stepOutcome : ℕ → Machine → Outcome InstructionReport
+stepOutcome n m = outcomeIf n (m .state .control .halted) (haltedReport m) (instructionReport m) m (stepInstruction m .machine)
+
+-- ---- `run`
+
+-- whether it is a machine, breakpoints, budget
+unfoldable pub runOutcome : Bool → List ℕ → ℕ → Machine → RunEnd
+runOutcome ok breaks n m =
+    cond ok
+    (cond (m .state .control .halted) (record { stop = AlreadyHalted; executed = 0; machine = m }) (run breaks 0 n m))
+    (record { stop = Refused 8; executed = 0; machine = m })

@@ -1,0 +1,91 @@
+-- One tick of a running machine (01, section 3; vm.rs, `micro_step`): `tickOf` says what it does to the control unit, and what it sends to the arrays.
+-- Assumes nothing.
+use Prim.Native.Nat.{ℕ}
+use mathlib.Core.Bool.{cond, not, _&&_}
+use mathlib.Core.List.{List}
+use lib.Dec.{eqb, ltb}
+use lib.ListN.{getD, set}
+use Rattle.isa.specs.declared.text.Text.{Text}
+use Rattle.isa.specs.Text.{text}
+use Rattle.isa.specs.Word.{digitX, digitY, digitZ}
+use Rattle.tick.specs.declared.control.State.{State}
+use Rattle.tick.specs.declared.control.Operands.{Operands}
+use Rattle.tick.specs.declared.control.Tick.{Tick}
+use Rattle.tick.specs.declared.control.BusTransfer.{BusTransfer}
+use Rattle.tick.specs.declared.control.BusTransfer.the-variants.{Idle, Read, Write}
+use Rattle.tick.specs.declared.control.RegisterWrite.{RegisterWrite}
+use Rattle.tick.specs.declared.control.RegisterWrite.the-variants.{Unwritten, Written}
+use Rattle.tick.specs.declared.counters.Counters.{Counters}
+use Rattle.tick.specs.Plan.{tickText}
+use Rattle.tick.specs.Tick.{tickOf}
+use Rattle.tick.specs.Count.{countTick}
+use Rattle.vm.specs.declared.trace.TraceRecord.{TraceRecord}
+use Rattle.vm.specs.declared.transfer.Done.{Done}
+use Rattle.vm.specs.Trace.{pushed}
+use Rattle.vm.specs.Touched.{touchedBy}
+
+-- all that a tick reads or writes
+pub record Machine : Type 0 where
+  pub state : State
+  pub counters : Counters
+  pub memory : List ℕ
+  pub registers : List ℕ
+  pub trace : List TraceRecord
+  pub touched : List ℕ
+
+-- the words that a tick may read: the word at MAR, and registers x, y, z and 0
+abbrev pub operandsOf : State → List ℕ → List ℕ → Operands
+operandsOf s m r =
+    let w = s .control .ir in
+    record { cell = getD m (s .control .mar) 0; x = getD r (digitX w) 0; y = getD r (digitY w) 0; z = getD r (digitZ w) 0; zero = getD r 0 0 }
+
+abbrev pub registersAfter : RegisterWrite → List ℕ → List ℕ
+registersAfter Unwritten r = r
+registersAfter (Written i v) r = set r i v
+
+-- the register that is written, 0 for none
+abbrev pub registerOf : RegisterWrite → ℕ
+registerOf Unwritten = 0
+registerOf (Written i v) = i
+
+abbrev pub memoryAfter : BusTransfer → List ℕ → List ℕ
+memoryAfter Idle m = m
+memoryAfter (Read a v) m = m
+memoryAfter (Write a v) m = set m a v
+
+-- 0 in a fetch tick, 2 in an execute tick
+abbrev pub phaseNumber : ℕ → ℕ
+phaseNumber t = cond (ltb t 4) 0 2
+
+-- the next tick, and its text
+abbrev pub nextTick : Machine → Tick
+nextTick m = tickOf (m .state .control .tick) (m .state) (operandsOf (m .state) (m .memory) (m .registers))
+
+abbrev pub nextTextOn : State → Operands → Text
+nextTextOn s o = text (tickText (s .control .tick) (eqb (o .x) (o .zero)) (s .control .ir))
+
+unfoldable pub nextText : Machine → Text
+nextText m = nextTextOn (m .state) (operandsOf (m .state) (m .memory) (m .registers))
+
+-- the machine after the tick t with the text x: one micro operation more, and then its record
+abbrev pub afterTick : Machine → Text → Tick → Machine
+afterTick m x t =
+    let k = countTick (t .bus) (t .completed) (m .counters) in
+    record {
+      state = t .state;
+      counters = k;
+      memory = memoryAfter (t .bus) (m .memory);
+      registers = registersAfter (t .write) (m .registers);
+      trace = pushed (record { number = k .«micro_operations»; address = t .state .control .«instruction_address»; phase = phaseNumber (m .state .control .tick); text = x }) (m .trace);
+      touched = touchedBy (t .bus) (m .touched);
+    }
+
+unfoldable pub microStep : Machine → Machine
+microStep m = afterTick m (nextText m) (nextTick m)
+
+-- what the tick did beside that; it faulted where it halted and completed nothing
+abbrev pub doneBy : Tick → Done
+doneBy t = record { bus = t .bus; write = t .write; faulted = t .state .control .halted && not (t .completed) }
+
+unfoldable pub nextDone : Machine → Done
+nextDone m = doneBy (nextTick m)

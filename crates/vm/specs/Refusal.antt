@@ -1,0 +1,44 @@
+-- What is refused of a state (01, section 1, numbers 8 and 9).
+-- Assumes nothing.
+use Prim.Native.Nat.{ℕ, _<_}
+use mathlib.Core.Path.{_≡_}
+use mathlib.Core.Bool.{Bool, cond, _&&_}
+use mathlib.Core.List.{List}
+use lib.Dec.{leb}
+use lib.ListN.{length, take, getD}
+use Rattle.tick.specs.Lawful.{lawful}
+use Rattle.tick.specs.Count.{overCounted}
+use Rattle.vm.specs.declared.transfer.Core.{Core}
+use Rattle.vm.specs.Trace.{liveLengths, shortTexts}
+use Rattle.vm.specs.Touched.{distinct}
+use Rattle.vm.specs.View.{Parts}
+
+-- 8: the control unit; the image's length; the number of trace records and the lengths of their texts; the touched addresses, and none twice
+unfoldable pub partsOk : Core → ℕ → List ℕ → List ℕ → Bool
+partsOk c n t l =
+    lawful (c .state .control)
+    && (leb n 256
+    && (leb (c .«trace_len») 512
+    && (shortTexts (liveLengths (c .«trace_start») (c .«trace_len») l)
+    && (leb (c .«touched_len») 256 && distinct (take (c .«touched_len») t)))))
+
+-- the refusal of a call on a machine, 0 where there is none: the parts, and the image's length
+unfoldable pub refusal : Core → ℕ → List ℕ → List ℕ → ℕ
+refusal c n t l = cond (partsOk c n t l) 0 8
+
+-- 9 is for a running machine with a counter near its end
+abbrev pub stepRefusalIf : Bool → Bool → Bool → ℕ
+stepRefusalIf ok halted far = cond ok (cond halted 0 (cond far 9 0)) 8
+
+unfoldable pub stepRefusal : Core → ℕ → List ℕ → List ℕ → ℕ
+stepRefusal c n t l = stepRefusalIf (partsOk c n t l) (c .state .control .halted) (overCounted (c .counters))
+
+-- how long the arrays are, which their types tell
+pub record Sizes (q : Parts) : Type 0 where
+  pub touched : length (q .touched) ≡ 256
+  pub bytes : (i : ℕ) → getD (q .touched) i 0 < 256
+  pub texts : length (q .texts) ≡ 16384
+  pub numbers : length (q .numbers) ≡ 512
+  pub addresses : length (q .addresses) ≡ 512
+  pub phases : length (q .phases) ≡ 512
+  pub lengths : length (q .lengths) ≡ 512

@@ -1,0 +1,52 @@
+-- The machine that the code's parts make: the small part by value, the arrays lent.
+-- Assumes nothing.
+use Prim.Native.Nat.{ℕ}
+use mathlib.Core.Path.{_≡_}
+use mathlib.Core.Bool.{true}
+use mathlib.Core.List.{List}
+use lib.ListN.{take}
+use Rattle.tick.specs.Lawful.{lawful}
+use Rattle.vm.specs.declared.trace.TraceRecord.{TraceRecord}
+use Rattle.vm.specs.declared.transfer.Core.{Core}
+use Rattle.vm.specs.Run.{spentState}
+use Rattle.vm.specs.Trace.{liveTrace, TraceFit}
+use Rattle.vm.specs.Touched.{TouchFit}
+use Rattle.vm.specs.Machine.{Machine}
+
+pub record Parts : Type 0 where
+  pub core : Core
+  pub memory : List ℕ
+  pub registers : List ℕ
+  pub touched : List ℕ
+  pub texts : List ℕ
+  pub numbers : List ℕ
+  pub addresses : List ℕ
+  pub phases : List ℕ
+  pub lengths : List ℕ
+
+abbrev pub parts : Core → List ℕ → List ℕ → List ℕ → List ℕ → List ℕ → List ℕ → List ℕ → List ℕ → Parts
+parts c m r t x i a p l = record { core = c; memory = m; registers = r; touched = t; texts = x; numbers = i; addresses = a; phases = p; lengths = l }
+
+abbrev pub traceOf : Parts → List TraceRecord
+traceOf q = liveTrace (q .core .«trace_start») (q .core .«trace_len») (q .texts) (q .numbers) (q .addresses) (q .phases) (q .lengths)
+
+-- the ring and the slots past the counts do not show
+abbrev pub view : Parts → Machine
+view q = record {
+  state = q .core .state;
+  counters = q .core .counters;
+  memory = q .memory;
+  registers = q .registers;
+  trace = traceOf q;
+  touched = take (q .core .«touched_len») (q .touched);
+}
+
+-- what the parts are between two ticks
+pub record Fit (q : Parts) : Type 0 where
+  pub control : lawful (q .core .state .control) ≡ true
+  pub touched : TouchFit (q .core .«touched_len») (q .touched)
+  pub trace : TraceFit (q .core .«trace_start») (q .core .«trace_len») (q .texts) (q .numbers) (q .addresses) (q .phases) (q .lengths)
+
+-- the small part, halted by a spent budget
+abbrev pub spentCore : Core → Core
+spentCore c = record { state = spentState (c .state); counters = c .counters; «touched_len» = c .«touched_len»; «trace_start» = c .«trace_start»; «trace_len» = c .«trace_len» }

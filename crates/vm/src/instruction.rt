@@ -1,0 +1,77 @@
+// One instruction: ticks until one ends it.
+ghost use mathlib.Core.Path.{_≡_};
+ghost use mathlib.Core.Bool.{false};
+ghost use Prim.Native.Nat.{_≤_};
+ghost use Rattle.vm.specs.Instruction.{started, steps};
+ghost use Rattle.vm.specs.View.{parts, view, Fit};
+use crate::transfer::Core;
+use crate::transfer::Done;
+use crate::transfer::tick_parts;
+use tick::BusTransfer;
+use tick::RegisterWrite;
+
+// A number of ticks.
+pub struct Ticks(pub u64);
+
+// After an instruction: how many ticks it took, whether the last one halted, and what that one did.
+pub struct Stepped {
+    pub core: Core,
+    pub ticks: Ticks,
+    pub halted: bool,
+    pub done: Done,
+}
+
+// Ticks until one ends the instruction, at most that many.
+pub(crate) fn instruction_parts(
+    from: Core,
+    limit: Ticks,
+    memory: &mut [u16; 256],
+    registers: &mut [u16; 16],
+    touched: &mut [u8; 256],
+    texts: &mut [u8; 16384],
+    numbers: &mut [u64; 512],
+    addresses: &mut [u8; 512],
+    phases: &mut [u8; 512],
+    lengths: &mut [u8; 512],
+) -> Stepped
+    requires { ⌜ (1 ≤ limit .0) × (from .state .control .halted ≡ false) × Fit (parts from (now memory) (now registers) (now touched) (now texts) (now numbers) (now addresses) (now phases) (now lengths)) ⌝ }
+    ensures { λ r. ⌜ (record { machine = view (parts (r .core) (now (memory .exit)) (now (registers .exit)) (now (touched .exit)) (now (texts .exit)) (now (numbers .exit)) (now (addresses .exit)) (now (phases .exit)) (now (lengths .exit))); ticks = r .ticks .0; done = r .done } ≡ steps (limit .0) (started (view (parts from (now (memory .entry)) (now (registers .entry)) (now (touched .entry)) (now (texts .entry)) (now (numbers .entry)) (now (addresses .entry)) (now (phases .entry)) (now (lengths .entry)))))) × Fit (parts (r .core) (now (memory .exit)) (now (registers .exit)) (now (touched .exit)) (now (texts .exit)) (now (numbers .exit)) (now (addresses .exit)) (now (phases .exit)) (now (lengths .exit))) × (r .halted ≡ r .core .state .control .halted) ⌝ }
+{
+    let mut s = from;
+    let mut done = Done {
+        bus: BusTransfer::Idle,
+        write: RegisterWrite::Unwritten,
+        faulted: false,
+    };
+    let mut made: u64 = 0;
+    let mut left = limit.0;
+    let halted = loop {
+        let t = tick_parts(
+            s,
+            memory,
+            registers,
+            touched,
+            texts,
+            numbers,
+            addresses,
+            phases,
+            lengths,
+        );
+        s = t.core;
+        done = t.done;
+        made += 1;
+        left -= 1;
+        if s.state.control.tick == 0 {
+            break s.state.control.halted;
+        }
+        if left == 0 {
+            break s.state.control.halted;
+        }
+    };
+    Stepped {
+        core: s,
+        ticks: Ticks(made),
+        halted,
+        done,
+    }
+}

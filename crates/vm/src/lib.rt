@@ -1,0 +1,33 @@
+// The MASSEY machine: the arrays above one tick, instructions, runs, and the calls on a machine. Each
+// call takes the machine by value, checks it once, and gives it back.
+mod check;
+mod instruction;
+mod machine;
+mod micro;
+mod readings;
+mod report;
+mod run;
+mod touched;
+mod trace;
+mod transfer;
+
+pub use instruction::Ticks;
+pub use machine::Machine;
+pub use machine::Served;
+pub use micro::MicroAnswer;
+pub use micro::MicroOp;
+pub use readings::ImageRead;
+pub use readings::InstructionRead;
+pub use readings::NumberRead;
+pub use readings::PositionRead;
+pub use readings::RunningRead;
+pub use readings::TextRead;
+pub use report::InstructionAnswer;
+pub use report::InstructionReport;
+pub use run::Begun;
+pub use run::Ran;
+pub use run::RunStop;
+pub use tick::execute_tick_count;
+pub use tick::transfer_plan;
+pub use trace::TraceRecord;
+pub use transfer::Core;

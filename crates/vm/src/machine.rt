@@ -1,0 +1,200 @@
+// The machine by value, and the calls that start it anew.
+ghost use mathlib.Core.Path.{_≡_};
+ghost use mathlib.Core.List.{[]};
+ghost use Rattle.vm.specs.Calls.{coreOf, refusalOf, restarted, imageWords, serve, loaded, reset, clear, clearHistory};
+use crate::check::parts_ok;
+use crate::transfer::Core;
+use tick::AluRecord;
+use tick::BusTransfer;
+use tick::Control;
+use tick::Counters;
+use tick::Fault;
+use tick::State;
+
+// All that the Rust's machine holds; of its history, the number of records. The trace is a ring: its
+// oldest record is in slot `trace_start` modulo 512. What stands past a count shows nowhere. The arrays
+// stand in front, where a proof's search looks first.
+pub struct Machine {
+    pub touched: [u8; 256],
+    pub lengths: [u8; 512],
+    pub texts: [u8; 16384],
+    pub numbers: [u64; 512],
+    pub addresses: [u8; 512],
+    pub phases: [u8; 512],
+    pub memory: [u16; 256],
+    pub registers: [u16; 16],
+    pub image: [u16; 256],
+    pub image_len: usize,
+    pub history_len: usize,
+    pub touched_len: usize,
+    pub trace_start: usize,
+    pub trace_len: usize,
+    pub state: State,
+    pub counters: Counters,
+}
+
+// The answer of a call that tells nothing more: 0, or the number of the refusal.
+pub struct Served {
+    pub refused: u8,
+    pub machine: Machine,
+}
+
+// The part of a machine that is small.
+fn core_of(m: Machine) -> Core
+    ensures { λ r. ⌜ r ≡ coreOf m ⌝ }
+{
+    let state = m.state;
+    let counters = m.counters;
+    Core {
+        state,
+        counters,
+        touched_len: m.touched_len,
+        trace_start: m.trace_start,
+        trace_len: m.trace_len,
+    }
+}
+
+// 8 where it is no machine, else 0.
+pub(crate) fn refusal_of(m: Machine) -> u8
+    ensures { λ r. ⌜ r ≡ refusalOf m ⌝ }
+{
+    let core = core_of(m);
+    let touched = m.touched;
+    let lengths = m.lengths;
+    let good = parts_ok(core, m.image_len, &touched, &lengths);
+    if good { 0 } else { 8 }
+}
+
+// A machine that was just switched on with an image in memory.
+fn switched_on(image: [u16; 256], image_len: usize, history_len: usize) -> Machine
+    ensures { λ r. ⌜ r ≡ restarted image «image_len» «history_len» ⌝ }
+{
+    let control = Control {
+        pc: 0,
+        ir: 0,
+        mar: 0,
+        mdr: 0,
+        instruction_address: 0,
+        tick: 0,
+        execute_ticks: 0,
+        halted: false,
+    };
+    let state = State {
+        control,
+        fault: Fault::Healthy,
+        last_transfer: BusTransfer::Idle,
+        last_alu: AluRecord::Unused,
+    };
+    let counters = Counters {
+        instructions: 0,
+        micro_operations: 0,
+        bus_reads: 0,
+        bus_writes: 0,
+    };
+    let registers = [0u16; 16];
+    let texts = [0u8; 16384];
+    let numbers = [0u64; 512];
+    let none = [0u8; 512];
+    let touched = [0u8; 256];
+    Machine {
+        memory: image,
+        registers,
+        state,
+        counters,
+        texts,
+        numbers,
+        addresses: none,
+        phases: none,
+        lengths: none,
+        trace_start: 0,
+        trace_len: 0,
+        touched,
+        touched_len: 0,
+        image,
+        image_len,
+        history_len,
+    }
+}
+
+// The first 256 words, and zeros past them.
+fn image_words(image: &[u16]) -> [u16; 256]
+    ensures { λ r. ⌜ r ≡ imageWords (now (image .entry)) ⌝ }
+{
+    let mut words = [0u16; 256];
+    let mut i = 0;
+    while i < 256 {
+        if i == image.len() {
+            return words;
+        }
+        words[i] = image[i];
+        i += 1;
+    }
+    words
+}
+
+// The new machine where the call is served, else the old one.
+fn serve_with(refused: u8, new: Machine, old: Machine) -> Served
+    ensures { λ r. ⌜ r ≡ serve refused new old ⌝ }
+{
+    if refused == 0 {
+        return Served {
+            refused,
+            machine: new,
+        };
+    }
+    Served {
+        refused,
+        machine: old,
+    }
+}
+
+impl Machine {
+    // An empty machine: all memory zero, all registers zero, PC at 00.
+    pub fn new() -> Machine
+        ensures { λ r. ⌜ r ≡ restarted (imageWords []) 0 0 ⌝ }
+    {
+        let image = [0u16; 256];
+        switched_on(image, 0, 0)
+    }
+
+    // Load a program image, of which the first 256 words count, and reset the machine.
+    pub fn load_image(self, image: &[u16]) -> Served
+        ensures { λ r. ⌜ r ≡ loaded (now (image .entry)) self ⌝ }
+    {
+        let refused = refusal_of(self);
+        let words = image_words(image);
+        let len = if image.len() < 256 { image.len() } else { 256 };
+        let new = switched_on(words, len, self.history_len);
+        serve_with(refused, new, self)
+    }
+
+    // Restore the loaded image and clear all registers, as if the machine had just been switched on
+    // with this program in memory.
+    pub fn reset(self) -> Served
+        ensures { λ r. ⌜ r ≡ reset self ⌝ }
+    {
+        let refused = refusal_of(self);
+        let image = self.image;
+        let new = switched_on(image, self.image_len, self.history_len);
+        serve_with(refused, new, self)
+    }
+
+    // Clear memory (including the loaded image), all registers and the history.
+    pub fn clear(self) -> Served
+        ensures { λ r. ⌜ r ≡ clear self ⌝ }
+    {
+        let refused = refusal_of(self);
+        let new = Machine::new();
+        serve_with(refused, new, self)
+    }
+
+    // Drop all saved states.
+    pub fn clear_history(self) -> Served
+        ensures { λ r. ⌜ r ≡ clearHistory self ⌝ }
+    {
+        let refused = refusal_of(self);
+        let mut new = self;
+        new.history_len = 0;
+        serve_with(refused, new, self)
+    }
+}

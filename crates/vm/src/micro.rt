@@ -1,0 +1,223 @@
+// One register transfer, as it is called.
+ghost use mathlib.Core.Path.{_≡_};
+ghost use mathlib.Core.Bool.{true};
+ghost use Rattle.vm.specs.View.{parts, view};
+ghost use Rattle.vm.specs.Refusal.{partsOk, stepRefusal, Sizes};
+ghost use Rattle.vm.specs.Calls.{hasFault, haltedOp, opAfter, answered, microOutcome, viewOf, isMachine, stepRefusalOf, restOf};
+use crate::check::step_refusal;
+use crate::instruction::Ticks;
+use crate::instruction::instruction_parts;
+use crate::machine::Machine;
+use crate::trace::Ring;
+use crate::trace::newest_text;
+use crate::transfer::Core;
+use crate::transfer::Done;
+use isa::Text;
+use tick::BusTransfer;
+use tick::Fault;
+use tick::Phase;
+use tick::RegisterWrite;
+use tick::State;
+use tick::phase_of;
+
+// One register transfer, as it is reported.
+pub struct MicroOp {
+    pub text: Text,
+    pub phase: Phase,
+    pub ends_instruction: bool,
+    pub halts: bool,
+    pub faulted: bool,
+    pub bus: BusTransfer,
+    pub write: RegisterWrite,
+    pub address: u8,
+}
+
+// `refused` is 0, or the number of the refusal, beside which `op` counts for nothing.
+pub struct MicroAnswer {
+    pub refused: u8,
+    pub op: MicroOp,
+    pub machine: Machine,
+}
+
+pub struct MicroCore {
+    pub refused: u8,
+    pub op: MicroOp,
+    pub core: Core,
+}
+
+pub(crate) fn has_fault(fault: Fault) -> bool
+    ensures { λ r. ⌜ r ≡ hasFault fault ⌝ }
+{
+    match fault {
+        Fault::Healthy => false,
+        Fault::UnknownInstruction { .. } => true,
+        Fault::StepBudgetExhausted { .. } => true,
+    }
+}
+
+// What a halted machine reports.
+fn halted_op(state: State) -> MicroOp
+    ensures { λ r. ⌜ r ≡ haltedOp state ⌝ }
+{
+    let fault = state.fault;
+    let faulted = has_fault(fault);
+    let text = Text::from_bytes(b"halted");
+    MicroOp {
+        text,
+        phase: Phase::Halt,
+        ends_instruction: true,
+        halts: true,
+        faulted,
+        bus: BusTransfer::Idle,
+        write: RegisterWrite::Unwritten,
+        address: state.control.pc,
+    }
+}
+
+// What a tick reports: its number, the state after it, what it did, and its text.
+fn op_after(tick: u8, state: State, done: Done, text: Text) -> MicroOp
+    ensures { λ r. ⌜ r ≡ opAfter tick state done text ⌝ }
+{
+    let phase = phase_of(tick);
+    let control = state.control;
+    let bus = done.bus;
+    let write = done.write;
+    MicroOp {
+        text,
+        phase,
+        ends_instruction: control.tick == 0,
+        halts: control.halted,
+        faulted: done.faulted,
+        bus,
+        write,
+        address: control.instruction_address,
+    }
+}
+
+fn micro_parts(
+    core: Core,
+    size: usize,
+    memory: &mut [u16; 256],
+    registers: &mut [u16; 16],
+    touched: &mut [u8; 256],
+    texts: &mut [u8; 16384],
+    numbers: &mut [u64; 512],
+    addresses: &mut [u8; 512],
+    phases: &mut [u8; 512],
+    lengths: &mut [u8; 512],
+) -> MicroCore
+    requires { ⌜ Sizes (parts core (now memory) (now registers) (now touched) (now texts) (now numbers) (now addresses) (now phases) (now lengths)) ⌝ }
+    ensures { λ r. ⌜ (answered (r .refused) (r .op) (view (parts (r .core) (now (memory .exit)) (now (registers .exit)) (now (touched .exit)) (now (texts .exit)) (now (numbers .exit)) (now (addresses .exit)) (now (phases .exit)) (now (lengths .exit)))) ≡ microOutcome (stepRefusal core size (now (touched .entry)) (now (lengths .entry))) (view (parts core (now (memory .entry)) (now (registers .entry)) (now (touched .entry)) (now (texts .entry)) (now (numbers .entry)) (now (addresses .entry)) (now (phases .entry)) (now (lengths .entry))))) × ((r .refused ≡ 0 → ⊥) → parts (r .core) (now (memory .exit)) (now (registers .exit)) (now (touched .exit)) (now (texts .exit)) (now (numbers .exit)) (now (addresses .exit)) (now (phases .exit)) (now (lengths .exit)) ≡ parts core (now (memory .entry)) (now (registers .entry)) (now (touched .entry)) (now (texts .entry)) (now (numbers .entry)) (now (addresses .entry)) (now (phases .entry)) (now (lengths .entry))) × (partsOk core size (now (touched .entry)) (now (lengths .entry)) ≡ true → partsOk (r .core) size (now (touched .exit)) (now (lengths .exit)) ≡ true) ⌝ }
+{
+    let state = core.state;
+    let still = halted_op(state);
+    let refused = step_refusal(core, size, touched, lengths);
+    if refused != 0 {
+        return MicroCore {
+            refused,
+            op: still,
+            core,
+        };
+    }
+    if state.control.halted {
+        return MicroCore {
+            refused,
+            op: still,
+            core,
+        };
+    }
+    let stepped = instruction_parts(
+        core,
+        Ticks(1),
+        memory,
+        registers,
+        touched,
+        texts,
+        numbers,
+        addresses,
+        phases,
+        lengths,
+    );
+    let end = stepped.core;
+    let done = stepped.done;
+    let after = end.state;
+    let ring = Ring {
+        start: end.trace_start,
+        len: end.trace_len,
+    };
+    let text = newest_text(ring, 1, 0, texts, lengths);
+    let op = op_after(state.control.tick, after, done, text);
+    MicroCore {
+        refused,
+        op,
+        core: end,
+    }
+}
+
+impl Machine {
+    // Perform exactly one register transfer.
+    pub fn micro_step(self) -> MicroAnswer
+        ensures answer { λ r. ⌜ answered (r .refused) (r .op) (viewOf (r .machine)) ≡ microOutcome (stepRefusalOf self) (viewOf self) ⌝ }
+        ensures rest { λ r. ⌜ restOf (r .machine) ≡ restOf self ⌝ }
+        ensures kept { λ r. ⌜ ((r .refused ≡ 0 → ⊥) → r .machine ≡ self) ⌝ }
+        ensures lasting { λ r. ⌜ (isMachine self ≡ true → isMachine (r .machine) ≡ true) ⌝ }
+    {
+        let state = self.state;
+        let counters = self.counters;
+        let core = Core {
+            state,
+            counters,
+            touched_len: self.touched_len,
+            trace_start: self.trace_start,
+            trace_len: self.trace_len,
+        };
+        let mut memory = self.memory;
+        let mut registers = self.registers;
+        let mut touched = self.touched;
+        let mut texts = self.texts;
+        let mut numbers = self.numbers;
+        let mut addresses = self.addresses;
+        let mut phases = self.phases;
+        let mut lengths = self.lengths;
+        let r = micro_parts(
+            core,
+            self.image_len,
+            &mut memory,
+            &mut registers,
+            &mut touched,
+            &mut texts,
+            &mut numbers,
+            &mut addresses,
+            &mut phases,
+            &mut lengths,
+        );
+        let end = r.core;
+        let op = r.op;
+        let state = end.state;
+        let counters = end.counters;
+        let image = self.image;
+        let machine = Machine {
+            memory,
+            registers,
+            state,
+            counters,
+            texts,
+            numbers,
+            addresses,
+            phases,
+            lengths,
+            trace_start: end.trace_start,
+            trace_len: end.trace_len,
+            touched,
+            touched_len: end.touched_len,
+            image,
+            image_len: self.image_len,
+            history_len: self.history_len,
+        };
+        MicroAnswer {
+            refused: r.refused,
+            op,
+            machine,
+        }
+    }
+}

@@ -1,0 +1,205 @@
+// One instruction, as it is called.
+ghost use mathlib.Core.Path.{_≡_};
+ghost use mathlib.Core.Bool.{true};
+ghost use Rattle.vm.specs.View.{parts, view};
+ghost use Rattle.vm.specs.Refusal.{partsOk, stepRefusal, Sizes};
+ghost use Rattle.vm.specs.Calls.{haltedTexts, answered, stepOutcome, viewOf, isMachine, stepRefusalOf, restOf};
+use crate::check::step_refusal;
+use crate::instruction::Ticks;
+use crate::instruction::instruction_parts;
+use crate::machine::Machine;
+use crate::micro::has_fault;
+use crate::trace::Ring;
+use crate::trace::newest_texts;
+use crate::transfer::Core;
+use disasm::disassemble;
+use isa::Text;
+use tick::TransferPlan;
+
+// A summary of running one instruction to completion: the word at PC and its text, the texts of the
+// ticks that were made, and whether the last one halted or faulted.
+pub struct InstructionReport {
+    pub address: u8,
+    pub word: u16,
+    pub text: Text,
+    pub micro_ops: TransferPlan,
+    pub halted: bool,
+    pub faulted: bool,
+}
+
+// `refused` is 0, or the number of the refusal, beside which `report` counts for nothing.
+pub struct InstructionAnswer {
+    pub refused: u8,
+    pub report: InstructionReport,
+    pub machine: Machine,
+}
+
+pub struct InstructionCore {
+    pub refused: u8,
+    pub report: InstructionReport,
+    pub core: Core,
+}
+
+// The one text of a halted machine.
+fn halted_texts() -> TransferPlan
+    ensures { λ r. ⌜ r ≡ haltedTexts ⌝ }
+{
+    let none = Text::from_bytes(b"");
+    let texts = [
+        Text::from_bytes(b"halted"),
+        none,
+        none,
+        none,
+        none,
+        none,
+        none,
+    ];
+    TransferPlan { texts, count: 1 }
+}
+
+fn step_parts(
+    core: Core,
+    size: usize,
+    memory: &mut [u16; 256],
+    registers: &mut [u16; 16],
+    touched: &mut [u8; 256],
+    texts: &mut [u8; 16384],
+    numbers: &mut [u64; 512],
+    addresses: &mut [u8; 512],
+    phases: &mut [u8; 512],
+    lengths: &mut [u8; 512],
+) -> InstructionCore
+    requires { ⌜ Sizes (parts core (now memory) (now registers) (now touched) (now texts) (now numbers) (now addresses) (now phases) (now lengths)) ⌝ }
+    ensures { λ r. ⌜ (answered (r .refused) (r .report) (view (parts (r .core) (now (memory .exit)) (now (registers .exit)) (now (touched .exit)) (now (texts .exit)) (now (numbers .exit)) (now (addresses .exit)) (now (phases .exit)) (now (lengths .exit)))) ≡ stepOutcome (stepRefusal core size (now (touched .entry)) (now (lengths .entry))) (view (parts core (now (memory .entry)) (now (registers .entry)) (now (touched .entry)) (now (texts .entry)) (now (numbers .entry)) (now (addresses .entry)) (now (phases .entry)) (now (lengths .entry))))) × ((r .refused ≡ 0 → ⊥) → parts (r .core) (now (memory .exit)) (now (registers .exit)) (now (touched .exit)) (now (texts .exit)) (now (numbers .exit)) (now (addresses .exit)) (now (phases .exit)) (now (lengths .exit)) ≡ parts core (now (memory .entry)) (now (registers .entry)) (now (touched .entry)) (now (texts .entry)) (now (numbers .entry)) (now (addresses .entry)) (now (phases .entry)) (now (lengths .entry))) × (partsOk core size (now (touched .entry)) (now (lengths .entry)) ≡ true → partsOk (r .core) size (now (touched .exit)) (now (lengths .exit)) ≡ true) ⌝ }
+{
+    let state = core.state;
+    let fault = state.fault;
+    let address = state.control.pc;
+    let at = address as usize;
+    let word = memory[at];
+    let text = disassemble(word);
+    let still = InstructionReport {
+        address,
+        word,
+        text,
+        micro_ops: halted_texts(),
+        halted: true,
+        faulted: has_fault(fault),
+    };
+    let refused = step_refusal(core, size, touched, lengths);
+    if refused != 0 {
+        return InstructionCore {
+            refused,
+            report: still,
+            core,
+        };
+    }
+    if state.control.halted {
+        return InstructionCore {
+            refused,
+            report: still,
+            core,
+        };
+    }
+    let stepped = instruction_parts(
+        core,
+        Ticks(7),
+        memory,
+        registers,
+        touched,
+        texts,
+        numbers,
+        addresses,
+        phases,
+        lengths,
+    );
+    let end = stepped.core;
+    let done = stepped.done;
+    let ring = Ring {
+        start: end.trace_start,
+        len: end.trace_len,
+    };
+    let made = stepped.ticks.0 as usize;
+    let micro_ops = newest_texts(ring, made, texts, lengths);
+    let report = InstructionReport {
+        address,
+        word,
+        text,
+        micro_ops,
+        halted: stepped.halted,
+        faulted: done.faulted,
+    };
+    InstructionCore {
+        refused,
+        report,
+        core: end,
+    }
+}
+
+impl Machine {
+    // Run micro-operations until the current instruction completes.
+    pub fn step_instruction(self) -> InstructionAnswer
+        ensures answer { λ r. ⌜ answered (r .refused) (r .report) (viewOf (r .machine)) ≡ stepOutcome (stepRefusalOf self) (viewOf self) ⌝ }
+        ensures rest { λ r. ⌜ restOf (r .machine) ≡ restOf self ⌝ }
+        ensures kept { λ r. ⌜ ((r .refused ≡ 0 → ⊥) → r .machine ≡ self) ⌝ }
+        ensures lasting { λ r. ⌜ (isMachine self ≡ true → isMachine (r .machine) ≡ true) ⌝ }
+    {
+        let state = self.state;
+        let counters = self.counters;
+        let core = Core {
+            state,
+            counters,
+            touched_len: self.touched_len,
+            trace_start: self.trace_start,
+            trace_len: self.trace_len,
+        };
+        let mut memory = self.memory;
+        let mut registers = self.registers;
+        let mut touched = self.touched;
+        let mut texts = self.texts;
+        let mut numbers = self.numbers;
+        let mut addresses = self.addresses;
+        let mut phases = self.phases;
+        let mut lengths = self.lengths;
+        let r = step_parts(
+            core,
+            self.image_len,
+            &mut memory,
+            &mut registers,
+            &mut touched,
+            &mut texts,
+            &mut numbers,
+            &mut addresses,
+            &mut phases,
+            &mut lengths,
+        );
+        let end = r.core;
+        let report = r.report;
+        let state = end.state;
+        let counters = end.counters;
+        let image = self.image;
+        let machine = Machine {
+            memory,
+            registers,
+            state,
+            counters,
+            texts,
+            numbers,
+            addresses,
+            phases,
+            lengths,
+            trace_start: end.trace_start,
+            trace_len: end.trace_len,
+            touched,
+            touched_len: end.touched_len,
+            image,
+            image_len: self.image_len,
+            history_len: self.history_len,
+        };
+        InstructionAnswer {
+            refused: r.refused,
+            report,
+            machine,
+        }
+    }
+}

@@ -1,0 +1,297 @@
+// Runs: instructions until the machine halts, a breakpoint, or the end of the budget.
+ghost use mathlib.Core.Path.{_≡_};
+ghost use mathlib.Core.Bool.{true, false};
+ghost use Rattle.vm.specs.Touched.{member};
+ghost use Rattle.vm.specs.Run.{reached, haltStop, run};
+ghost use Rattle.vm.specs.View.{parts, view, Fit, spentCore};
+ghost use Rattle.vm.specs.Refusal.{partsOk, Sizes};
+ghost use Rattle.vm.specs.Calls.{runOutcome, viewOf, isMachine, restOf};
+use crate::check::parts_ok;
+use crate::instruction::Ticks;
+use crate::instruction::instruction_parts;
+use crate::machine::Machine;
+use crate::transfer::Core;
+use tick::Fault;
+use tick::State;
+use tick::is_over_counted;
+
+// A number of instructions begun.
+pub struct Begun(pub u64);
+
+// Why the machine stopped running. `Refused` has the refusal's number, and stands for no stop.
+pub enum RunStop {
+    Halted,
+    Breakpoint(u8),
+    Fault,
+    Budget,
+    AlreadyHalted,
+    Refused(u8),
+}
+
+pub struct RanCore {
+    pub core: Core,
+    pub stop: RunStop,
+    pub executed: Begun,
+}
+
+fn contains(s: &[u8], b: u8) -> bool
+    ensures { λ r. ⌜ r ≡ member b (now (s .entry)) ⌝ }
+{
+    let mut i = 0;
+    while i < s.len() {
+        if s[i] == b {
+            return true;
+        }
+        i += 1;
+    }
+    false
+}
+
+// A breakpoint, never before the first instruction.
+fn at_break(breakpoints: &[u8], begun: u64, pc: u8) -> bool
+    ensures { λ r. ⌜ r ≡ reached (now (breakpoints .entry)) begun pc ⌝ }
+{
+    if begun == 0 {
+        return false;
+    }
+    contains(breakpoints, pc)
+}
+
+fn halt_stop(fault: Fault) -> RunStop
+    ensures { λ r. ⌜ r ≡ haltStop fault ⌝ }
+{
+    match fault {
+        Fault::Healthy => RunStop::Halted,
+        Fault::UnknownInstruction { .. } => RunStop::Fault,
+        Fault::StepBudgetExhausted { .. } => RunStop::Fault,
+    }
+}
+
+// The budget is spent.
+fn exhausted(s: Core) -> Core
+    ensures { λ r. ⌜ r ≡ spentCore s ⌝ }
+{
+    let old = s.state;
+    let mut control = old.control;
+    control.halted = true;
+    let last_transfer = old.last_transfer;
+    let last_alu = old.last_alu;
+    let fault = Fault::StepBudgetExhausted {
+        word: control.ir,
+        address: control.pc,
+    };
+    let state = State {
+        control,
+        fault,
+        last_transfer,
+        last_alu,
+    };
+    let counters = s.counters;
+    Core {
+        state,
+        counters,
+        touched_len: s.touched_len,
+        trace_start: s.trace_start,
+        trace_len: s.trace_len,
+    }
+}
+
+pub(crate) fn run_parts(
+    from: Core,
+    budget: Begun,
+    breakpoints: &[u8],
+    memory: &mut [u16; 256],
+    registers: &mut [u16; 16],
+    touched: &mut [u8; 256],
+    texts: &mut [u8; 16384],
+    numbers: &mut [u64; 512],
+    addresses: &mut [u8; 512],
+    phases: &mut [u8; 512],
+    lengths: &mut [u8; 512],
+) -> RanCore
+    requires { ⌜ Fit (parts from (now memory) (now registers) (now touched) (now texts) (now numbers) (now addresses) (now phases) (now lengths)) ⌝ }
+    ensures { λ r. ⌜ (record { stop = r .stop; executed = r .executed .0; machine = view (parts (r .core) (now (memory .exit)) (now (registers .exit)) (now (touched .exit)) (now (texts .exit)) (now (numbers .exit)) (now (addresses .exit)) (now (phases .exit)) (now (lengths .exit))) } ≡ run (now (breakpoints .entry)) 0 (budget .0) (view (parts from (now (memory .entry)) (now (registers .entry)) (now (touched .entry)) (now (texts .entry)) (now (numbers .entry)) (now (addresses .entry)) (now (phases .entry)) (now (lengths .entry))))) × Fit (parts (r .core) (now (memory .exit)) (now (registers .exit)) (now (touched .exit)) (now (texts .exit)) (now (numbers .exit)) (now (addresses .exit)) (now (phases .exit)) (now (lengths .exit))) ⌝ }
+{
+    let mut s = from;
+    let limit = budget.0;
+    let mut begun: u64 = 0;
+    loop {
+        if s.state.control.halted {
+            let state = s.state;
+            let fault = state.fault;
+            let stop = halt_stop(fault);
+            return RanCore {
+                core: s,
+                stop,
+                executed: Begun(begun),
+            };
+        }
+        let pc = s.state.control.pc;
+        let broken = at_break(breakpoints, begun, pc);
+        if broken {
+            return RanCore {
+                core: s,
+                stop: RunStop::Breakpoint(pc),
+                executed: Begun(begun),
+            };
+        }
+        if limit <= begun {
+            let core = exhausted(s);
+            return RanCore {
+                core,
+                stop: RunStop::Budget,
+                executed: Begun(begun),
+            };
+        }
+        let counters = s.counters;
+        let over = is_over_counted(counters);
+        if over {
+            return RanCore {
+                core: s,
+                stop: RunStop::Refused(9),
+                executed: Begun(begun),
+            };
+        }
+        let t = instruction_parts(
+            s,
+            Ticks(7),
+            memory,
+            registers,
+            touched,
+            texts,
+            numbers,
+            addresses,
+            phases,
+            lengths,
+        );
+        let next = t.core;
+        s = next;
+        begun += 1;
+    }
+}
+
+// A run of a machine that may be none, or halted.
+fn run_checked(
+    core: Core,
+    size: usize,
+    budget: Begun,
+    breakpoints: &[u8],
+    memory: &mut [u16; 256],
+    registers: &mut [u16; 16],
+    touched: &mut [u8; 256],
+    texts: &mut [u8; 16384],
+    numbers: &mut [u64; 512],
+    addresses: &mut [u8; 512],
+    phases: &mut [u8; 512],
+    lengths: &mut [u8; 512],
+) -> RanCore
+    requires { ⌜ Sizes (parts core (now memory) (now registers) (now touched) (now texts) (now numbers) (now addresses) (now phases) (now lengths)) ⌝ }
+    ensures { λ r. ⌜ (record { stop = r .stop; executed = r .executed .0; machine = view (parts (r .core) (now (memory .exit)) (now (registers .exit)) (now (touched .exit)) (now (texts .exit)) (now (numbers .exit)) (now (addresses .exit)) (now (phases .exit)) (now (lengths .exit))) } ≡ runOutcome (partsOk core size (now (touched .entry)) (now (lengths .entry))) (now (breakpoints .entry)) (budget .0) (view (parts core (now (memory .entry)) (now (registers .entry)) (now (touched .entry)) (now (texts .entry)) (now (numbers .entry)) (now (addresses .entry)) (now (phases .entry)) (now (lengths .entry))))) × (partsOk core size (now (touched .entry)) (now (lengths .entry)) ≡ false → parts (r .core) (now (memory .exit)) (now (registers .exit)) (now (touched .exit)) (now (texts .exit)) (now (numbers .exit)) (now (addresses .exit)) (now (phases .exit)) (now (lengths .exit)) ≡ parts core (now (memory .entry)) (now (registers .entry)) (now (touched .entry)) (now (texts .entry)) (now (numbers .entry)) (now (addresses .entry)) (now (phases .entry)) (now (lengths .entry))) × (partsOk core size (now (touched .entry)) (now (lengths .entry)) ≡ true → partsOk (r .core) size (now (touched .exit)) (now (lengths .exit)) ≡ true) ⌝ }
+{
+    let good = parts_ok(core, size, touched, lengths);
+    if !good {
+        return RanCore {
+            core,
+            stop: RunStop::Refused(8),
+            executed: Begun(0),
+        };
+    }
+    if core.state.control.halted {
+        return RanCore {
+            core,
+            stop: RunStop::AlreadyHalted,
+            executed: Begun(0),
+        };
+    }
+    run_parts(
+        core,
+        budget,
+        breakpoints,
+        memory,
+        registers,
+        touched,
+        texts,
+        numbers,
+        addresses,
+        phases,
+        lengths,
+    )
+}
+
+// After a run: why it stopped, and how many instructions it began.
+pub struct Ran {
+    pub stop: RunStop,
+    pub executed: Begun,
+    pub machine: Machine,
+}
+
+impl Machine {
+    // Run until HALT, a fault, a breakpoint or the end of the budget.
+    pub fn run(self, budget: Begun, breakpoints: &[u8]) -> Ran
+        ensures answer { λ r. ⌜ record { stop = r .stop; executed = r .executed .0; machine = viewOf (r .machine) } ≡ runOutcome (isMachine self) (now (breakpoints .entry)) (budget .0) (viewOf self) ⌝ }
+        ensures rest { λ r. ⌜ restOf (r .machine) ≡ restOf self ⌝ }
+        ensures kept { λ r. ⌜ (isMachine self ≡ false → r .machine ≡ self) ⌝ }
+        ensures lasting { λ r. ⌜ (isMachine self ≡ true → isMachine (r .machine) ≡ true) ⌝ }
+    {
+        let state = self.state;
+        let counters = self.counters;
+        let core = Core {
+            state,
+            counters,
+            touched_len: self.touched_len,
+            trace_start: self.trace_start,
+            trace_len: self.trace_len,
+        };
+        let mut memory = self.memory;
+        let mut registers = self.registers;
+        let mut touched = self.touched;
+        let mut texts = self.texts;
+        let mut numbers = self.numbers;
+        let mut addresses = self.addresses;
+        let mut phases = self.phases;
+        let mut lengths = self.lengths;
+        let r = run_checked(
+            core,
+            self.image_len,
+            budget,
+            breakpoints,
+            &mut memory,
+            &mut registers,
+            &mut touched,
+            &mut texts,
+            &mut numbers,
+            &mut addresses,
+            &mut phases,
+            &mut lengths,
+        );
+        let end = r.core;
+        let stop = r.stop;
+        let executed = r.executed;
+        let state = end.state;
+        let counters = end.counters;
+        let image = self.image;
+        let machine = Machine {
+            memory,
+            registers,
+            state,
+            counters,
+            texts,
+            numbers,
+            addresses,
+            phases,
+            lengths,
+            trace_start: end.trace_start,
+            trace_len: end.trace_len,
+            touched,
+            touched_len: end.touched_len,
+            image,
+            image_len: self.image_len,
+            history_len: self.history_len,
+        };
+        Ran {
+            stop,
+            executed,
+            machine,
+        }
+    }
+}

@@ -1,0 +1,156 @@
+// One register transfer: the arrays lent, the rest by value.
+ghost use mathlib.Core.Path.{_≡_};
+ghost use mathlib.Core.Bool.{false, not, _&&_};
+ghost use Prim.Native.Nat.{_<_};
+ghost use Rattle.vm.specs.Machine.{operandsOf, registerOf, registersAfter, memoryAfter, phaseNumber, microStep, nextDone};
+ghost use Rattle.vm.specs.View.{parts, view, Fit};
+use crate::touched::touch;
+use crate::trace::Ring;
+use crate::trace::push_trace;
+use tick::BusTransfer;
+use tick::Counters;
+use tick::Operands;
+use tick::RegisterWrite;
+use tick::State;
+use tick::count_tick;
+use tick::tick_of;
+use tick::tick_text;
+
+// What is small: passed by value at every level.
+pub struct Core {
+    pub state: State,
+    pub counters: Counters,
+    pub touched_len: usize,
+    pub trace_start: usize,
+    pub trace_len: usize,
+}
+
+// What a tick did beside the machine that it leaves.
+pub struct Done {
+    pub bus: BusTransfer,
+    pub write: RegisterWrite,
+    pub faulted: bool,
+}
+
+pub struct Ticked {
+    pub core: Core,
+    pub done: Done,
+}
+
+fn read_operands(s: State, memory: &[u16; 256], registers: &[u16; 16]) -> Operands
+    ensures { λ r. ⌜ r ≡ operandsOf s (now (memory .entry)) (now (registers .entry)) ⌝ }
+{
+    let w = s.control.ir;
+    let x = (w / 256 % 16) as usize;
+    let y = (w / 16 % 16) as usize;
+    let z = (w % 16) as usize;
+    let a = s.control.mar as usize;
+    Operands {
+        cell: memory[a],
+        x: registers[x],
+        y: registers[y],
+        z: registers[z],
+        zero: registers[0],
+    }
+}
+
+fn set_register(w: RegisterWrite, registers: &mut [u16; 16])
+    requires { ⌜ registerOf w < 16 ⌝ }
+    ensures { λ r. ⌜ now (registers .exit) ≡ registersAfter w (now (registers .entry)) ⌝ }
+{
+    match w {
+        RegisterWrite::Unwritten => {}
+        RegisterWrite::Written { register, value } => {
+            let i = register as usize;
+            registers[i] = value;
+        }
+    }
+}
+
+fn set_word(b: BusTransfer, memory: &mut [u16; 256])
+    ensures { λ r. ⌜ now (memory .exit) ≡ memoryAfter b (now (memory .entry)) ⌝ }
+{
+    match b {
+        BusTransfer::Idle => {}
+        BusTransfer::Read { .. } => {}
+        BusTransfer::Write { address, value } => {
+            let i = address as usize;
+            memory[i] = value;
+        }
+    }
+}
+
+// The phase of a tick, as the trace has it.
+fn phase_number(tick: u8) -> u8
+    ensures { λ r. ⌜ r ≡ phaseNumber tick ⌝ }
+{
+    if tick < 4 { 0 } else { 2 }
+}
+
+// Whether a tick faulted: it halted, and completed nothing.
+fn is_fault(halted: bool, completed: bool) -> bool
+    ensures { λ r. ⌜ r ≡ halted && not completed ⌝ }
+{
+    if halted { !completed } else { false }
+}
+
+// The next tick of a running machine.
+pub(crate) fn tick_parts(
+    s: Core,
+    memory: &mut [u16; 256],
+    registers: &mut [u16; 16],
+    touched: &mut [u8; 256],
+    texts: &mut [u8; 16384],
+    numbers: &mut [u64; 512],
+    addresses: &mut [u8; 512],
+    phases: &mut [u8; 512],
+    lengths: &mut [u8; 512],
+) -> Ticked
+    requires { ⌜ (s .state .control .halted ≡ false) × Fit (parts s (now memory) (now registers) (now touched) (now texts) (now numbers) (now addresses) (now phases) (now lengths)) ⌝ }
+    ensures { λ r. ⌜ (view (parts (r .core) (now (memory .exit)) (now (registers .exit)) (now (touched .exit)) (now (texts .exit)) (now (numbers .exit)) (now (addresses .exit)) (now (phases .exit)) (now (lengths .exit))) ≡ microStep (view (parts s (now (memory .entry)) (now (registers .entry)) (now (touched .entry)) (now (texts .entry)) (now (numbers .entry)) (now (addresses .entry)) (now (phases .entry)) (now (lengths .entry))))) × (r .done ≡ nextDone (view (parts s (now (memory .entry)) (now (registers .entry)) (now (touched .entry)) (now (texts .entry)) (now (numbers .entry)) (now (addresses .entry)) (now (phases .entry)) (now (lengths .entry))))) × Fit (parts (r .core) (now (memory .exit)) (now (registers .exit)) (now (touched .exit)) (now (texts .exit)) (now (numbers .exit)) (now (addresses .exit)) (now (phases .exit)) (now (lengths .exit))) × ((r .core .state .control .tick ≡ 0 → ⊥) → r .core .state .control .halted ≡ false) ⌝ }
+{
+    let old = s.state;
+    let o = read_operands(old, memory, registers);
+    let tick = old.control.tick;
+    let text = tick_text(tick, o.x == o.zero, old.control.ir);
+    let phase = phase_number(tick);
+    let t = tick_of(old, o);
+    let new = t.state;
+    let bus = t.bus;
+    let write = t.write;
+    let completed = t.completed;
+    let counters = count_tick(s.counters, bus, completed);
+    set_register(write, registers);
+    set_word(bus, memory);
+    let n = touch(bus, touched, s.touched_len);
+    let ring = Ring {
+        start: s.trace_start,
+        len: s.trace_len,
+    };
+    let q = push_trace(
+        ring,
+        text,
+        counters.micro_operations,
+        new.control.instruction_address,
+        phase,
+        texts,
+        numbers,
+        addresses,
+        phases,
+        lengths,
+    );
+    let core = Core {
+        state: new,
+        counters,
+        touched_len: n,
+        trace_start: q.start,
+        trace_len: q.len,
+    };
+    let faulted = is_fault(new.control.halted, completed);
+    let done = Done {
+        bus,
+        write,
+        faulted,
+    };
+    Ticked { core, done }
+}
