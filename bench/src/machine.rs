@@ -7,22 +7,22 @@ use oracle::images;
 use oracle::vm::Machine;
 use std::hint::black_box;
 
-/// How many rounds a run is timed: each takes a second of the original.
-const RUN_ROUNDS: usize = 8;
+/// Rounds of a run, of which the original takes a second for each program.
+const RUN_ROUNDS: usize = 12;
 const ROUNDS: usize = 60;
-pub const BUDGET: u64 = 1_000_000;
+const BUDGET: u64 = 1_000_000;
 const CALLS: u64 = 1_000;
 /// Enough instructions that the trace is full when its texts are checked.
 const WARM: u64 = 200;
 
-/// Programs that never halt: eight opcodes in a loop, all that the ALU does,
-/// and stores to 64 addresses.
+/// Programs that never halt: eight opcodes in a loop, all that the ALU does and
+/// a jump that is not taken, and stores to 64 addresses.
 pub fn programs() -> Vec<Vec<u16>> {
     let eight = vec![
         0x1105, 0x6212, 0x4380, 0x3380, 0x7030, 0x9101, 0xA123, 0xD000,
     ];
     let alu = vec![
-        0x11F3, 0x1207, 0x6312, 0x7030, 0x8302, 0x9401, 0xA513, 0xB612, 0xC732, 0xD0FF, 0xD000,
+        0x11F3, 0x1207, 0x6312, 0x7030, 0x8302, 0x9401, 0xA513, 0xB612, 0xC732, 0xD1FF, 0xD000,
     ];
     let mut stores: Vec<u16> = (0x4180..0x41C0).collect();
     stores.push(0xD000);
@@ -33,6 +33,7 @@ pub fn programs() -> Vec<Vec<u16>> {
 pub fn agree(programs: &[Vec<u16>]) {
     for words in programs {
         let image = images::bytes(words);
+        assert!(runs_on(words), "a halted machine has nothing to do");
         for n in [0, 1, 2, 7, 100, CALLS] {
             assert_eq!(archive::run(&image, n), run(words, n));
             assert_eq!(archive::steps(&image, n), steps(words, n));
@@ -47,6 +48,14 @@ fn loaded(words: &[u16]) -> Machine {
     let mut machine = Machine::new();
     machine.load_image(words);
     machine
+}
+
+fn runs_on(words: &[u16]) -> bool {
+    let mut machine = loaded(words);
+    for _ in 0..CALLS {
+        machine.step_instruction();
+    }
+    machine.is_running()
 }
 
 fn run(words: &[u16], budget: u64) -> u64 {
