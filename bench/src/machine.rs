@@ -80,73 +80,70 @@ fn ticks(words: &[u16], n: u64) -> u64 {
     machine.micro_operations
 }
 
-/// The nanoseconds of a run.
-pub fn running(programs: &[Vec<u16>]) -> (f64, f64) {
-    timed(
-        RUN_ROUNDS,
-        1,
-        programs,
-        |words| run(words, BUDGET),
-        |image| archive::run(image, BUDGET),
-    )
-}
-
-/// The nanoseconds of one instruction.
-pub fn stepping(programs: &[Vec<u16>]) -> (f64, f64) {
-    timed(
-        ROUNDS,
-        CALLS,
-        programs,
-        |words| steps(words, CALLS),
-        |image| archive::steps(image, CALLS),
-    )
-}
-
-/// The nanoseconds of one tick.
-pub fn ticking(programs: &[Vec<u16>]) -> (f64, f64) {
-    timed(
-        ROUNDS,
-        CALLS,
-        programs,
-        |words| ticks(words, CALLS),
-        |image| archive::ticks(image, CALLS),
-    )
-}
-
-/// The nanoseconds of one check of the state, beside an instruction of the
-/// original.
-pub fn checking(programs: &[Vec<u16>]) -> (f64, f64) {
-    timed(
-        ROUNDS,
-        CALLS,
-        programs,
-        |words| steps(words, CALLS),
-        |image| archive::checks(image, WARM, CALLS),
-    )
-}
-
-/// Either side over all programs, of which each makes so many calls.
-fn timed(
+/// A call of the machine: its limit, how often it is timed, how many there are
+/// to a pass over a program, and either side of so many.
+pub struct Call {
+    pub name: &'static str,
+    pub limit: &'static str,
     rounds: usize,
     calls: u64,
-    programs: &[Vec<u16>],
-    rust: impl Fn(&[u16]) -> u64,
-    ours: impl Fn(&[u8]) -> u64,
-) -> (f64, f64) {
+    rust: fn(&[u16]) -> u64,
+    ours: fn(&[u8]) -> u64,
+}
+
+/// A whole run counts as one call. The check of the state is beside an
+/// instruction of the original, which checks nothing.
+pub const CALLS_TIMED: [Call; 4] = [
+    Call {
+        name: "`run`, budget 1,000,000",
+        limit: "0.2",
+        rounds: RUN_ROUNDS,
+        calls: 1,
+        rust: |words| run(words, BUDGET),
+        ours: |image| archive::run(image, BUDGET),
+    },
+    Call {
+        name: "`step_instruction`",
+        limit: "1.5",
+        rounds: ROUNDS,
+        calls: CALLS,
+        rust: |words| steps(words, CALLS),
+        ours: |image| archive::steps(image, CALLS),
+    },
+    Call {
+        name: "`micro_step`",
+        limit: "8",
+        rounds: ROUNDS,
+        calls: CALLS,
+        rust: |words| ticks(words, CALLS),
+        ours: |image| archive::ticks(image, CALLS),
+    },
+    Call {
+        name: "the state's check, to a `step_instruction`",
+        limit: "0.5",
+        rounds: ROUNDS,
+        calls: CALLS,
+        rust: |words| steps(words, CALLS),
+        ours: |image| archive::checks(image, WARM, CALLS),
+    },
+];
+
+/// Either side over all programs, of which each makes so many calls.
+pub fn timed(call: &Call, programs: &[Vec<u16>]) -> (f64, f64) {
     let images: Vec<Vec<u8>> = programs.iter().map(|words| images::bytes(words)).collect();
     let mut rust = || {
         for words in programs {
-            black_box(rust(black_box(words)));
+            black_box((call.rust)(black_box(words)));
         }
     };
     let mut ours = || {
         for image in &images {
-            black_box(ours(black_box(image)));
+            black_box((call.ours)(black_box(image)));
         }
     };
     medians(
-        rounds,
-        programs.len() * calls as usize,
+        call.rounds,
+        programs.len() * call.calls as usize,
         &mut rust,
         &mut ours,
     )

@@ -37,18 +37,9 @@ fn main() {
     row("listing of 256 words", "none", listing(&sets));
     let programs = machine::programs();
     machine::agree(&programs);
-    row(
-        "`run`, budget 1,000,000",
-        "0.2",
-        machine::running(&programs),
-    );
-    row("`step_instruction`", "1.5", machine::stepping(&programs));
-    row("`micro_step`", "8", machine::ticking(&programs));
-    row(
-        "the state's check, to a `step_instruction`",
-        "0.5",
-        machine::checking(&programs),
-    );
+    for call in &machine::CALLS_TIMED {
+        row(call.name, call.limit, machine::timed(call, &programs));
+    }
 }
 
 /// Each of the sixteen first digits equally often, in an order by chance.
