@@ -19,7 +19,7 @@ use Rattle.tick.specs.Tick.{decodeAs, decodeTick, executeTick, endedTick
 use Rattle.tick.specs.Lawful.{lawful}
 use Rattle.tick.proofs.Plans.{ticks-few}
 
-true-false : true ≡ false → ⊥
+pub true-false : true ≡ false → ⊥
 true-false e = let z : _≡_ {A = ℕ} 0 1 = cc in omega arith
 
 -- what `is_lawful` answers in the execute ticks
@@ -129,9 +129,10 @@ onward-next n t c q k m f h r e = go (leb (q .state .control .«execute_ticks»)
           goes = λ _. (next, k .halted ∙ r);
         }
 
-first : (a b : Bool) → a && b ≡ true → a ≡ true
-first true b e = refl
-first false b e = absurd (true-false (sym e))
+-- both are true
+pub both : (a b : Bool) → a && b ≡ true → (a ≡ true) × (b ≡ true)
+both true b e = (refl, e)
+both false b e = absurd (true-false (sym e))
 
 -- what a lawful control unit says of an execute tick
 facts : (a h f x y : Bool) → a && cond h true (cond f true (x && y)) ≡ true → h ≡ false → f ≡ false → x ≡ true
@@ -142,9 +143,9 @@ facts true true f x y e p q = absurd (true-false p)
 facts false h f x y e p q = absurd (true-false (sym e))
 
 -- the tick's number is small, and in an execute tick the count is that of IR's opcode
-lawful-small : (c : Control) → lawful c ≡ true → c .tick ≤ 6
+pub lawful-small : (c : Control) → lawful c ≡ true → c .tick ≤ 6
 unfolding lawful
-lawful-small c ok = leb-true (c .tick) 6 (first (leb (c .tick) 6) _ ok)
+lawful-small c ok = leb-true (c .tick) 6 (both (leb (c .tick) 6) _ ok .0)
 
 lawful-count : (c : Control) → lawful c ≡ true → c .halted ≡ false → 4 ≤ c .tick → c .«execute_ticks» ≡ executeTicks (decodeWord (c .ir))
 unfolding lawful

@@ -2,4 +2,3 @@ pub mod Plan
 pub mod Tick
 pub mod Lawful
 pub mod Count
-pub mod Examples

@@ -12,7 +12,7 @@ use lib.ListN.{replicate, length, getD, take, drop, set, length-drop, take-appen
 use lib.Seq.{drop-cons, getD-drop, getD-take, length-take-le, take-take, take-suc, take-all, take-append-le, take-append-add, getD-set-same, getD-set-other}
 use Rattle.vm.specs.Trace.{turn, shortTexts}
 use Rattle.vm.specs.Touched.{member, distinct}
-use Rattle.vm.proofs.Lists.{true-false}
+use Rattle.tick.proofs.Lawfuls.{true-false}
 
 -- ---- No address twice, by a table of those seen.
 

@@ -3,7 +3,7 @@
 use Prim.Native.Nat.{ℕ, zero, suc, _≤_, _-_}
 use native.Mathlib.Omega.{arith}
 use mathlib.Core.Path.{_≡_, refl, ap, sym, _∙_}
-use mathlib.Core.Bool.{Bool, true, false, cond, _&&_}
+use mathlib.Core.Bool.{Bool, true, false, cond}
 use mathlib.Core.List.{List, [], _∷_, map}
 use borrow.Author.Tests.{eq-eqb, ne-eqb, leb-true, le-leb}
 use lib.Dec.{leb}
@@ -25,12 +25,8 @@ use Rattle.vm.specs.Run.{run}
 use Rattle.vm.specs.View.{Parts, view, Fit}
 use Rattle.vm.specs.Refusal.{partsOk, stepRefusalIf, stepRefusal, Sizes}
 use Rattle.vm.specs.Calls.{answered, hasFault, opAfter, microOp, outcomeIf, reportOn, haltedTexts, haltedReport, instructionReport, runOutcome}
-use Rattle.vm.proofs.Lists.{true-false}
+use Rattle.tick.proofs.Lawfuls.{true-false, both}
 use Rattle.vm.proofs.Newest.{texts-of, trace-length, one-step, made, few}
-
-pub both : (a b : Bool) → a && b ≡ true → (a ≡ true) × (b ≡ true)
-both true b e = (refl, e)
-both false b e = absurd (true-false (sym e))
 
 abbrev pub okOf : Parts → ℕ → Bool
 okOf q n = partsOk (q .core) n (q .touched) (q .lengths)

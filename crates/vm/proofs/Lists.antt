@@ -10,6 +10,7 @@ use borrow.Author.Tests.{ne-eqb, eqb-true, eqb-false}
 use lib.Dec.{eqb}
 use lib.ListN.{set, length, getD, drop}
 use lib.Seq.{drop-cons, drop-length}
+use Rattle.tick.proofs.Lawfuls.{true-false}
 use Rattle.vm.specs.Touched.{member, distinct}
 
 -- the search from i on looks at the i-th first
@@ -38,10 +39,6 @@ keep false x xs = x ∷ xs
 without : ℕ → List ℕ → List ℕ
 without n [] = []
 without n (x ∷ xs) = keep (eqb x n) x (without n xs)
-
--- the two answers differ
-pub true-false : true ≡ false → ⊥
-true-false e = let z : _≡_ {A = ℕ} 0 1 = cc in omega arith
 
 -- a test or another is false: both are
 pub pick-false : (b m : Bool) → cond b true m ≡ false → (b ≡ false) × (m ≡ false)

@@ -5,21 +5,18 @@ use native.Mathlib.Omega.{arith}
 use native.Mathlib.Numerals.{add-one}
 use native.Mathlib.Decide.{decLt}
 use mathlib.Core.Path.{_≡_, refl, ap, sym, _∙_}
-use mathlib.Core.Bool.{Bool, true, false, _&&_}
+use mathlib.Core.Bool.{true, false}
 use mathlib.Core.List.{List, [], _∷_, _++_, append-assoc, append-nil, map, map-append}
-use borrow.Author.Tests.{lt-ltb, le-ltb, leb-true}
-use lib.Dec.{leb}
+use borrow.Author.Tests.{lt-ltb, le-ltb}
 use lib.ListN.{length, getD, take, drop, set, length-append, length-drop, drop-of-length-le, List·getD-append, List·getD-eq-default}
 use lib.Seq.{take-suc, take-suc-set, getD-drop, getD-take, getD-append-add, drop-append-le, drop-drop}
 use Rattle.isa.specs.declared.text.Text.{Text}
-use Rattle.tick.specs.declared.control.Control.{Control}
 use Rattle.tick.specs.Lawful.{lawful}
-use Rattle.tick.proofs.Lawfuls.{Next, tick-next}
+use Rattle.tick.proofs.Lawfuls.{Next, lawful-small, tick-next}
 use Rattle.vm.specs.declared.trace.TraceRecord.{TraceRecord}
 use Rattle.vm.specs.Trace.{pushed, slots, turn, textAt, recordAt, liveTrace, liveTexts, newest}
 use Rattle.vm.specs.Machine.{Machine, operandsOf, nextText, nextDone, microStep}
 use Rattle.vm.specs.Instruction.{Steps, started, ticked, unlessZero, steps, stepInstruction, tickTexts}
-use Rattle.vm.proofs.Lists.{true-false}
 use Rattle.vm.proofs.Rings.{length-slots, live-length}
 use Rattle.vm.proofs.Turns.{spent}
 
@@ -230,16 +227,6 @@ few f m h b =
     (omega (arith, q .count, texts-few f m), omega (arith, q .count, q .held))
 
 -- ---- an instruction ends
-
--- both are true, so the first is
-first : (a b : Bool) → a && b ≡ true → a ≡ true
-first true b e = refl
-first false b e = absurd (true-false (sym e))
-
--- the tick's number is small
-lawful-small : (c : Control) → lawful c ≡ true → c .tick ≤ 6
-unfolding lawful
-lawful-small c ok = leb-true (c .tick) 6 (first (leb (c .tick) 6) _ ok)
 
 -- within the ticks that are left of seven
 end-in : (f : ℕ) (s : Steps) → lawful (s .machine .state .control) ≡ true → s .machine .state .control .halted ≡ false → 7 ≤ s .machine .state .control .tick + f → steps f s .machine .state .control .tick ≡ 0

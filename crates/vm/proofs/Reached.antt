@@ -12,7 +12,7 @@ use Rattle.tick.specs.Lawful.{lawful}
 use Rattle.vm.specs.declared.machine.Machine.{Machine as Code}
 use Rattle.vm.specs.Refusal.{partsOk, refusal}
 use Rattle.vm.specs.Calls.{isMachine, refusalOf, restarted, imageWords, serve, loaded, reset, clear, clearHistory}
-use Rattle.vm.proofs.Fits.{both}
+use Rattle.tick.proofs.Lawfuls.{both}
 use Rattle.vm.proofs.Starts.{new-ok}
 
 -- what a call answers where the machine is one

@@ -6,3 +6,4 @@ pub mod Run
 pub mod View
 pub mod Refusal
 pub mod Calls
+pub mod Examples

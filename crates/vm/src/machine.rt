@@ -12,31 +12,31 @@ use tick::Fault;
 use tick::State;
 
 // All that the Rust's machine holds; of its history, the number of records. The trace is a ring: its
-// oldest record is in slot `trace_start` modulo 512. What stands past a count shows nowhere. The arrays
-// stand in front, where a proof's search looks first.
+// oldest record is in slot `trace_start` modulo 512. What stands past a count shows nowhere. A number
+// stands between two large arrays, so that the compiler copies each straight to its place.
 pub struct Machine {
     pub touched: [u8; 256],
+    pub touched_len: usize,
     pub lengths: [u8; 512],
+    pub trace_len: usize,
     pub texts: [u8; 16384],
+    pub trace_start: usize,
     pub numbers: [u64; 512],
+    pub image_len: usize,
     pub addresses: [u8; 512],
     pub phases: [u8; 512],
     pub memory: [u16; 256],
     pub registers: [u16; 16],
-    pub image: [u16; 256],
-    pub image_len: usize,
     pub history_len: usize,
-    pub touched_len: usize,
-    pub trace_start: usize,
-    pub trace_len: usize,
+    pub image: [u16; 256],
     pub state: State,
     pub counters: Counters,
 }
 
 // The answer of a call that tells nothing more: 0, or the number of the refusal.
 pub struct Served {
-    pub refused: u8,
     pub machine: Machine,
+    pub refused: u8,
 }
 
 // The part of a machine that is small.

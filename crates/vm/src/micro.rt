@@ -34,9 +34,9 @@ pub struct MicroOp {
 
 // `refused` is 0, or the number of the refusal, beside which `op` counts for nothing.
 pub struct MicroAnswer {
+    pub machine: Machine,
     pub refused: u8,
     pub op: MicroOp,
-    pub machine: Machine,
 }
 
 pub struct MicroCore {
@@ -171,14 +171,14 @@ impl Machine {
             trace_start: self.trace_start,
             trace_len: self.trace_len,
         };
-        let mut memory = self.memory;
         let mut registers = self.registers;
-        let mut touched = self.touched;
-        let mut texts = self.texts;
-        let mut numbers = self.numbers;
-        let mut addresses = self.addresses;
+        let mut memory = self.memory;
         let mut phases = self.phases;
+        let mut addresses = self.addresses;
+        let mut numbers = self.numbers;
+        let mut texts = self.texts;
         let mut lengths = self.lengths;
+        let mut touched = self.touched;
         let r = micro_parts(
             core,
             self.image_len,

@@ -15,41 +15,41 @@ use isa::Instruction;
 use isa::Text;
 
 pub struct NumberRead {
+    pub machine: Machine,
     pub refused: u8,
     pub number: usize,
-    pub machine: Machine,
 }
 
 pub struct RunningRead {
+    pub machine: Machine,
     pub refused: u8,
     pub running: bool,
-    pub machine: Machine,
 }
 
 pub struct InstructionRead {
+    pub machine: Machine,
     pub refused: u8,
     pub instruction: Instruction,
-    pub machine: Machine,
 }
 
 pub struct TextRead {
+    pub machine: Machine,
     pub refused: u8,
     pub text: Text,
-    pub machine: Machine,
 }
 
 pub struct PositionRead {
+    pub machine: Machine,
     pub refused: u8,
     pub position: ByteOption,
-    pub machine: Machine,
 }
 
 // The first `len` words are the image's.
 pub struct ImageRead {
+    pub machine: Machine,
     pub refused: u8,
     pub words: [u16; 256],
     pub len: usize,
-    pub machine: Machine,
 }
 
 fn number_read(refused: u8, number: usize, machine: Machine) -> NumberRead

@@ -29,9 +29,9 @@ pub struct InstructionReport {
 
 // `refused` is 0, or the number of the refusal, beside which `report` counts for nothing.
 pub struct InstructionAnswer {
+    pub machine: Machine,
     pub refused: u8,
     pub report: InstructionReport,
-    pub machine: Machine,
 }
 
 pub struct InstructionCore {
@@ -153,14 +153,14 @@ impl Machine {
             trace_start: self.trace_start,
             trace_len: self.trace_len,
         };
-        let mut memory = self.memory;
         let mut registers = self.registers;
-        let mut touched = self.touched;
-        let mut texts = self.texts;
-        let mut numbers = self.numbers;
-        let mut addresses = self.addresses;
+        let mut memory = self.memory;
         let mut phases = self.phases;
+        let mut addresses = self.addresses;
+        let mut numbers = self.numbers;
+        let mut texts = self.texts;
         let mut lengths = self.lengths;
+        let mut touched = self.touched;
         let r = step_parts(
             core,
             self.image_len,

@@ -220,9 +220,9 @@ fn run_checked(
 
 // After a run: why it stopped, and how many instructions it began.
 pub struct Ran {
+    pub machine: Machine,
     pub stop: RunStop,
     pub executed: Begun,
-    pub machine: Machine,
 }
 
 impl Machine {
@@ -242,14 +242,14 @@ impl Machine {
             trace_start: self.trace_start,
             trace_len: self.trace_len,
         };
-        let mut memory = self.memory;
         let mut registers = self.registers;
-        let mut touched = self.touched;
-        let mut texts = self.texts;
-        let mut numbers = self.numbers;
-        let mut addresses = self.addresses;
+        let mut memory = self.memory;
         let mut phases = self.phases;
+        let mut addresses = self.addresses;
+        let mut numbers = self.numbers;
+        let mut texts = self.texts;
         let mut lengths = self.lengths;
+        let mut touched = self.touched;
         let r = run_checked(
             core,
             self.image_len,

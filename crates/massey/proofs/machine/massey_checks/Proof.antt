@@ -6,7 +6,7 @@ use mathlib.Core.Logic.{⊎-elim}
 use mathlib.Core.Path.{_≡_, ap, _∙_}
 use mathlib.Core.Bool.{true}
 use denote.Ref.{now}
-use Rattle.vm.specs.Calls.{isMachine, refusalOf}
+use Rattle.vm.specs.Calls.{isMachine}
 use Rattle.massey.proofs.Machines.{start-ok, not-refused}
 use borrow.Author.Needs.{needs}
 use Rattle.massey.proofs.machine.massey_checks.Statement.{statement}

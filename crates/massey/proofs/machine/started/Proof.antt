@@ -7,7 +7,7 @@ use lib.ListN.{length, replicate, length-append}
 use lib.Seq.{length-take-le}
 use denote.Ref.{now}
 use Rattle.disasm.proofs.Listings.{part-back}
-use Rattle.massey.specs.Machine.{wordCount, wordsOf}
+use Rattle.massey.specs.Machine.{wordsOf}
 use Rattle.massey.proofs.Machines.{count-fits, words-read, words-length, start-loaded}
 use borrow.Author.Needs.{needs}
 use Rattle.massey.proofs.machine.started.Statement.{statement}
