@@ -24,7 +24,7 @@ int64_t massey_disassemble(uint16_t word, uint8_t *out, size_t out_len);
 int64_t massey_listing(const uint8_t *image, size_t image_len, uint8_t *out,
                        size_t out_len);
 
-/* The next four load the image's whole words, of which the first 256 count, on
+/* The next six load the image's whole words, of which the first 256 count, on
  * a new machine, and cannot be refused. They are for timing: each puts one of
  * the machine's calls to work and answers a number that shows what was done. */
 
@@ -44,6 +44,17 @@ uint64_t massey_ticks(const uint8_t *image, size_t image_len, uint64_t n);
  * told: n. */
 uint64_t massey_checks(const uint8_t *image, size_t image_len, uint64_t budget,
                        uint64_t n);
+
+/* Saves the machine's state n times in the store, which is taken to hold count
+ * records already, and answers how many it holds then. */
+uint64_t massey_pushes(const uint8_t *image, size_t image_len, uint8_t *store,
+                       size_t store_len, uint64_t count, uint64_t n);
+
+/* Undoes n times from a store that is taken to hold count records, and answers
+ * how many are left. A refused call changes nothing and counts nothing. */
+uint64_t massey_undos(const uint8_t *image, size_t image_len,
+                      const uint8_t *store, size_t store_len, uint64_t count,
+                      uint64_t n);
 
 #ifdef __cplusplus
 }

@@ -2,6 +2,7 @@
 //! a table. Lent buffers are used again and again and never cleared between
 //! calls; the original makes a new `String` each time, as its callers get it.
 
+mod history;
 mod machine;
 
 use oracle::random::Random;
@@ -39,6 +40,20 @@ fn main() {
     machine::agree(&programs);
     for call in &machine::CALLS_TIMED {
         row(call.name, call.limit, machine::timed(call, &programs));
+    }
+    let mut store = history::store();
+    history::agree(&programs[0], &mut store);
+    row(
+        "`push_history` at the limit of 20,000",
+        "2",
+        history::pushing(&programs[0], &mut store),
+    );
+    for changed in [0, 16, 64] {
+        row(
+            &format!("`undo`, {changed} words changed"),
+            "2",
+            history::undoing(&programs[0], changed, &mut store),
+        );
     }
 }
 

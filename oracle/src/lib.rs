@@ -4,16 +4,35 @@
 // The original says `use crate::isa`, so its files must be modules right here.
 include!(concat!(env!("OUT_DIR"), "/original.rs"));
 
-pub mod calls;
+pub mod answers;
+pub mod commands;
+pub mod counter_scripts;
+pub mod edge_scripts;
+pub mod history;
 pub mod images;
+pub mod limit_scripts;
+pub mod limited;
 pub mod lists;
+pub mod live_scripts;
 pub mod machines;
+pub mod malformed_scripts;
+pub mod model;
 pub mod places;
 pub mod programs;
 pub mod random;
+pub mod random_scripts;
+pub mod reading_lists;
+pub mod readings;
 pub mod record;
+pub mod record_scripts;
 pub mod replays;
+pub mod runs;
 pub mod sample;
+pub mod sample_script;
+pub mod script_lists;
+pub mod scripts;
+pub mod snapshots;
 pub mod tick_lists;
 pub mod ticks;
+pub mod touched;
 pub mod vm_lists;

@@ -1,7 +1,7 @@
 //! The port's programs that replay lists, each with its lists.
 
 use crate::record::{self, Record};
-use crate::{calls, lists, tick_lists, ticks, vm_lists};
+use crate::{lists, reading_lists, readings, tick_lists, ticks};
 
 pub struct Replay {
     pub program: &'static str,
@@ -38,12 +38,12 @@ pub const REPLAYS: [Replay; 3] = [
         malformed: Vec::new,
     },
     Replay {
-        program: "replay_vm",
-        kinds: &calls::KINDS,
-        fixed: vm_lists::fixed,
-        full: vm_lists::full,
-        samples: vm_lists::samples,
-        counted: b"",
-        malformed: vm_lists::malformed,
+        program: "replay_readings",
+        kinds: &readings::KINDS,
+        fixed: reading_lists::fixed,
+        full: reading_lists::full,
+        samples: reading_lists::samples,
+        counted: b"R",
+        malformed: reading_lists::malformed,
     },
 ];

@@ -1,14 +1,19 @@
-//! The two lists of `replay_vm`, as those of `replay_disasm` in `lists`. Each
-//! record is itself a list of calls.
+//! Lists of calls without a history store, for `massey_calls`: each begins with
+//! a new machine, and behind each call the whole machine is dumped. A script has
+//! many lists.
 
-use crate::calls::{self, Call, List};
+use crate::commands::Command;
 use crate::programs::{self, HALT, JUMP};
 use crate::random::Random;
-use crate::record::Record;
+use crate::scripts::{Draft, LONGEST};
 use crate::vm::Machine;
 
-/// How many lists by chance the full list has.
+/// How many lists by chance there are, and how many a script has.
 const LISTS: usize = 100_000;
+const IN_A_SCRIPT: usize = 500;
+
+/// How many scripts there are: the first has the lists that were chosen.
+pub const LIST_SCRIPTS: usize = 1 + LISTS / IN_A_SCRIPT;
 
 /// Image lengths around none, one and the machine's size, and well over it.
 const LENGTHS: [usize; 10] = [0, 1, 2, 255, 256, 257, 300, 511, 513, 700];
@@ -19,27 +24,47 @@ const COUNTDOWN: [u16; 9] = [
 ];
 
 /// Every call, with operands.
-fn every_call() -> Vec<Call> {
+fn every_call() -> Vec<Command> {
     vec![
-        Call::New,
-        Call::Load(COUNTDOWN.to_vec()),
-        Call::Reset,
-        Call::Clear,
-        Call::Micro,
-        Call::Step,
-        Call::Run(3, vec![1]),
-        Call::ClearHistory,
-        Call::Image,
-        Call::IsRunning,
-        Call::CurrentInstruction,
-        Call::DisassembleAt(0),
-        Call::TransferPosition,
-        Call::HistoryLen,
+        Command::New,
+        Command::Load(COUNTDOWN.to_vec()),
+        Command::Reset,
+        Command::Clear,
+        Command::Micro,
+        Command::Step,
+        Command::Run(3, vec![1]),
+        Command::ClearHistory,
     ]
 }
 
-/// The list that is replayed wherever the port is checked.
-pub fn fixed() -> Vec<Record> {
+/// A script of lists.
+pub fn script(number: usize) -> Vec<u8> {
+    let mut draft = Draft::started(0);
+    match number {
+        0 => chosen().into_iter().for_each(|list| add(&mut draft, list)),
+        _ => {
+            let first = (number - 1) * IN_A_SCRIPT;
+            (first..first + IN_A_SCRIPT).for_each(|list| any(&mut draft, list));
+        }
+    }
+    let script = draft.bytes();
+    assert!(script.len() <= LONGEST, "a longer script is malformed");
+    script
+}
+
+/// A new machine, and the calls of a list.
+fn add(draft: &mut Draft, calls: Vec<Command>) {
+    draft.add(Command::New);
+    calls.into_iter().for_each(|call| shown(draft, call));
+}
+
+/// A call, and the machine that it leaves.
+fn shown(draft: &mut Draft, call: Command) {
+    draft.add_all([call, Command::Dump]);
+}
+
+/// The lists that were chosen one by one.
+fn chosen() -> Vec<Vec<Command>> {
     let mut random = Random::new(0x000C_A115);
     let mut lists = on_new_machines();
     lists.extend(ends());
@@ -52,31 +77,11 @@ pub fn fixed() -> Vec<Record> {
     lists.extend(within());
     lists.extend(images(&mut random));
     lists.extend(started_anew());
-    let mut records: Vec<Record> = lists.iter().map(|list| calls::record(list)).collect();
-    records.extend((0..20).map(|_| any(&mut random)));
-    records
-}
-
-/// The fixed list, and many more by chance.
-pub fn full() -> Vec<Record> {
-    let mut random = Random::new(0x0CA1_15F0);
-    let mut records = fixed();
-    records.extend((0..LISTS).map(|_| any(&mut random)));
-    records
-}
-
-/// A few short lists.
-pub fn samples() -> Vec<Record> {
-    let load = Call::Load(vec![0x1105, HALT]);
-    vec![
-        calls::record(&[load.clone(), Call::Run(9, vec![1])]),
-        calls::record(&[Call::Micro, Call::DisassembleAt(1)]),
-        calls::record(&[load, Call::Step, Call::Micro]),
-    ]
+    lists
 }
 
 /// Each call on a new machine, and twice.
-fn on_new_machines() -> Vec<Vec<Call>> {
+fn on_new_machines() -> Vec<Vec<Command>> {
     every_call()
         .into_iter()
         .flat_map(|call| [vec![call.clone()], vec![call.clone(), call]])
@@ -85,25 +90,25 @@ fn on_new_machines() -> Vec<Vec<Call>> {
 
 /// HALT and each unknown opcode, by every way of stepping; then every call on
 /// the halted machine.
-fn ends() -> Vec<Vec<Call>> {
+fn ends() -> Vec<Vec<Command>> {
     let mut lists = Vec::new();
     for word in [HALT, 0xEFFF, 0x0000, 0x0123, 0x5000, 0xF001] {
-        for way in [vec![Call::Step], vec![Call::Micro; 4], vec![run(5)]] {
-            let mut list = vec![Call::Load(vec![word])];
+        for way in [vec![Command::Step], vec![Command::Micro; 4], vec![run(5)]] {
+            let mut list = vec![Command::Load(vec![word])];
             list.extend(way);
-            list.extend([Call::Micro, Call::Step, run(1), Call::TransferPosition]);
+            list.extend([Command::Micro, Command::Step, run(1)]);
             lists.push(list);
         }
     }
     lists
 }
 
-fn run(budget: u64) -> Call {
-    Call::Run(budget, Vec::new())
+fn run(budget: u64) -> Command {
+    Command::Run(budget, Vec::new())
 }
 
 /// Each opcode with something in its registers, tick by tick and whole.
-fn opcodes() -> Vec<Vec<Call>> {
+fn opcodes() -> Vec<Vec<Command>> {
     let mut lists = Vec::new();
     for opcode in 0..16 {
         let program = vec![
@@ -113,95 +118,113 @@ fn opcodes() -> Vec<Vec<Call>> {
             opcode << 12 | 0x0213,
             HALT,
         ];
-        let load = Call::Load(program);
-        let mut ticks = vec![load.clone(), Call::Step, Call::Step];
-        for _ in 0..8 {
-            ticks.extend([Call::Micro, Call::TransferPosition]);
-        }
+        let load = Command::Load(program);
+        let mut ticks = vec![load.clone(), Command::Step, Command::Step];
+        ticks.extend(vec![Command::Micro; 8]);
         lists.push(ticks);
-        lists.push(vec![load, Call::Step, Call::Step, Call::Step, run(9)]);
+        lists.push(vec![
+            load,
+            Command::Step,
+            Command::Step,
+            Command::Step,
+            run(9),
+        ]);
     }
     lists
 }
 
 /// PC runs over the last address.
-fn wraps() -> Vec<Vec<Call>> {
+fn wraps() -> Vec<Vec<Command>> {
     let with_last = |word: u16| {
         let mut program = vec![0; 256];
         program[0] = JUMP | 0xFF;
         program[255] = word;
-        Call::Load(program)
+        Command::Load(program)
     };
     let mut lists = Vec::new();
     for word in [0x1105, 0x4000, HALT, 0x5000, JUMP | 0x80, 0xD1FF] {
-        lists.push(vec![with_last(word), Call::Step, Call::Step, Call::Step]);
-        lists.push(vec![with_last(word), run(6), Call::CurrentInstruction]);
+        lists.push(vec![
+            with_last(word),
+            Command::Step,
+            Command::Step,
+            Command::Step,
+        ]);
+        lists.push(vec![with_last(word), run(6)]);
     }
-    let mut ticks = vec![with_last(0x6123), Call::Step];
-    ticks.extend(vec![Call::Micro; 7]);
+    let mut ticks = vec![with_last(0x6123), Command::Step];
+    ticks.extend(vec![Command::Micro; 7]);
     lists.push(ticks);
     lists
 }
 
 /// Traces that reach 512 records and go past them, by runs, steps and ticks.
 /// A jump to itself takes five ticks.
-fn long_traces() -> Vec<Vec<Call>> {
-    let load = Call::Load(vec![JUMP]);
-    let mut crossing = vec![load.clone(), Call::Run(102, Vec::new()), Call::Reset];
-    crossing.extend(vec![Call::Run(103, vec![0]); 2]);
-    let mut ticks = vec![Call::Load(vec![0x6000; 256])];
-    ticks.extend([Call::Run(u64::MAX, vec![0x65]), Call::Micro]);
-    ticks.extend(vec![Call::Micro; 12]);
+fn long_traces() -> Vec<Vec<Command>> {
+    let load = Command::Load(vec![JUMP]);
+    let mut crossing = vec![load.clone(), Command::Run(102, Vec::new()), Command::Reset];
+    crossing.extend(vec![Command::Run(103, vec![0]); 2]);
+    let mut ticks = vec![Command::Load(vec![0x6000; 256])];
+    ticks.extend([Command::Run(u64::MAX, vec![0x65]), Command::Micro]);
+    ticks.extend(vec![Command::Micro; 12]);
     vec![
         crossing,
         ticks,
-        vec![load.clone(), run(103), Call::Micro],
-        vec![load, run(400), Call::Step, Call::Reset, Call::Step],
-        vec![Call::Load(vec![0x4500; 256]), run(300), Call::Image],
+        vec![load.clone(), run(103), Command::Micro],
+        vec![load, run(400), Command::Step, Command::Reset, Command::Step],
+        vec![Command::Load(vec![0x4500; 256]), run(300)],
     ]
 }
 
 /// All 256 addresses, each written by its own store; some of them; and one
 /// many times.
-fn touched() -> Vec<Vec<Call>> {
+fn touched() -> Vec<Vec<Command>> {
     let stores = |address: fn(u16) -> u16| {
         let words = (0..256).map(|at| 0x4100 | address(at) & 0xFF);
-        Call::Load(words.collect())
+        Command::Load(words.collect())
     };
     let own = stores(|at| at);
     let behind = stores(|at| at + 255);
     let twice = stores(|at| at & 0xFE);
     vec![
-        vec![own.clone(), run(255), Call::Reset, run(256)],
-        vec![own, Call::Run(1_000, vec![0]), Call::Step, Call::Step],
-        vec![behind.clone(), Call::Run(1_000, vec![0]), Call::Step],
+        vec![own.clone(), run(255), Command::Reset, run(256)],
+        vec![
+            own,
+            Command::Run(1_000, vec![0]),
+            Command::Step,
+            Command::Step,
+        ],
+        vec![behind.clone(), Command::Run(1_000, vec![0]), Command::Step],
         vec![
             behind,
-            Call::Run(1_000, vec![0x80]),
-            Call::Clear,
-            Call::Step,
+            Command::Run(1_000, vec![0x80]),
+            Command::Clear,
+            Command::Step,
         ],
         vec![twice, run(200)],
     ]
 }
 
-/// Budgets of none, one, and around what a program takes to its end.
-fn budgets() -> Vec<Vec<Call>> {
+/// Budgets of none, one, around what a program takes to its end, and such as
+/// are small once they are cut to 16 or 32 bits.
+fn budgets() -> Vec<Vec<Command>> {
     let mut machine = Machine::new();
     machine.load_image(&COUNTDOWN);
     machine.run(u64::MAX, &[]);
     let exact = machine.instructions;
-    [0, 1, 2, exact - 1, exact, exact + 1, u64::MAX]
+    let wide = [1 << 16, 1 << 32, (1 << 32) + 2, 1 << 63, u64::MAX];
+    [0, 1, 2, exact - 1, exact, exact + 1]
+        .into_iter()
+        .chain(wide)
         .map(|budget| {
-            let load = Call::Load(COUNTDOWN.to_vec());
-            vec![load, run(budget), Call::IsRunning, Call::Micro, run(budget)]
+            let load = Command::Load(COUNTDOWN.to_vec());
+            vec![load, run(budget), Command::Micro, run(budget)]
         })
-        .to_vec()
+        .collect()
 }
 
 /// Breakpoints that are hit, passed by, met at the first instruction, met
 /// again, and given more than once.
-fn breakpoints() -> Vec<Vec<Call>> {
+fn breakpoints() -> Vec<Vec<Command>> {
     let sets: [Vec<u8>; 9] = [
         vec![0],
         vec![3],
@@ -215,128 +238,116 @@ fn breakpoints() -> Vec<Vec<Call>> {
     ];
     let mut lists = Vec::new();
     for set in sets {
-        let stop = Call::Run(40, set);
-        let mut list = vec![Call::Load(COUNTDOWN.to_vec())];
+        let stop = Command::Run(40, set);
+        let mut list = vec![Command::Load(COUNTDOWN.to_vec())];
         list.extend(vec![stop; 5]);
         lists.push(list);
     }
     // The budget and the breakpoint at once: the breakpoint is looked at first.
-    lists.push(vec![Call::Load(COUNTDOWN.to_vec()), Call::Run(3, vec![3])]);
-    lists.push(vec![Call::Load(vec![JUMP]), Call::Run(1, vec![0])]);
-    lists.push(vec![Call::Load(vec![JUMP]), Call::Run(0, vec![0])]);
+    lists.push(vec![
+        Command::Load(COUNTDOWN.to_vec()),
+        Command::Run(3, vec![3]),
+    ]);
+    lists.push(vec![Command::Load(vec![JUMP]), Command::Run(1, vec![0])]);
+    lists.push(vec![Command::Load(vec![JUMP]), Command::Run(0, vec![0])]);
     lists
 }
 
 /// Every number of ticks into an instruction, and then another call.
-fn within() -> Vec<Vec<Call>> {
+fn within() -> Vec<Vec<Command>> {
     let program = vec![0x3102, 0x4101, 0x6112, 0x3101, HALT];
     let mut lists = Vec::new();
     for ticks in 1..=6 {
         for call in [
-            Call::Step,
+            Command::Step,
             run(0),
             run(2),
-            Call::Run(4, vec![1, 2]),
-            Call::Reset,
+            Command::Run(4, vec![1, 2]),
+            Command::Reset,
         ] {
-            let mut list = vec![Call::Load(program.clone())];
-            list.extend(vec![Call::Micro; ticks]);
-            list.extend([call, Call::TransferPosition, Call::Step]);
+            let mut list = vec![Command::Load(program.clone())];
+            list.extend(vec![Command::Micro; ticks]);
+            list.extend([call, Command::Step]);
             lists.push(list);
         }
     }
     lists
 }
 
-/// Images of lengths of interest, read and stepped.
-fn images(random: &mut Random) -> Vec<Vec<Call>> {
+/// Images of lengths of interest, loaded and stepped.
+fn images(random: &mut Random) -> Vec<Vec<Command>> {
     LENGTHS
         .map(|length| {
             let words = (0..length).map(|_| random.word()).collect();
-            let last = Call::DisassembleAt(length.saturating_sub(1).min(255) as u8);
-            vec![Call::Load(words), Call::Image, last, Call::Step]
+            vec![Command::Load(words), Command::Step]
         })
         .to_vec()
 }
 
 /// A machine that has run, and then starts anew in each way, or twice.
-fn started_anew() -> Vec<Vec<Call>> {
-    let load = |words: &[u16]| Call::Load(words.to_vec());
+fn started_anew() -> Vec<Vec<Command>> {
+    let load = |words: &[u16]| Command::Load(words.to_vec());
     let anew = [
-        vec![Call::Reset],
-        vec![Call::Clear],
-        vec![Call::New],
+        vec![Command::Reset],
+        vec![Command::Clear],
+        vec![Command::New],
         vec![load(&[0x1107, HALT])],
         vec![load(&[])],
-        vec![Call::ClearHistory],
-        vec![Call::Clear, Call::Reset],
-        vec![Call::Reset, Call::Clear],
-        vec![load(&[HALT; 256]), Call::Reset],
+        vec![Command::ClearHistory],
+        vec![Command::Clear, Command::Reset],
+        vec![Command::Reset, Command::Clear],
+        vec![load(&[HALT; 256]), Command::Reset],
     ];
     anew.into_iter()
         .map(|calls| {
             let mut list = vec![load(&COUNTDOWN), run(30)];
             list.extend(calls);
-            list.extend([Call::Image, Call::HistoryLen, Call::Step, run(4)]);
+            list.extend([Command::Step, run(4)]);
             list
         })
         .collect()
 }
 
-/// 3 to 20 calls by chance.
-fn any(random: &mut Random) -> Record {
-    let mut list = List::started();
-    let count = 3 + random.below(18);
-    for at in 0..count {
+/// 3 to 20 calls by chance. Every list can be made alone, from its number.
+fn any(draft: &mut Draft, number: usize) {
+    let mut random = Random::new(0x0CA1_15F0_0000 + number as u64);
+    let random = &mut random;
+    draft.add(Command::New);
+    for at in 0..3 + random.below(18) {
         let call = match at {
-            0 if random.below(16) > 0 => Call::Load(programs::any(random)),
+            0 if random.below(16) > 0 => Command::Load(programs::any(random)),
             1 if random.below(16) == 0 => run(200 + random.below(400) as u64),
-            _ => any_call(random, &list),
+            _ => any_call(random, draft),
         };
-        if list.has_room(&call) {
-            list.call(&call);
-        }
+        shown(draft, call);
     }
-    list.record()
 }
 
 /// A halted machine is often started anew, so that few calls find one.
-fn any_call(random: &mut Random, list: &List) -> Call {
-    let halted = list.machine().halted;
-    match random.below(100) {
+fn any_call(random: &mut Random, draft: &Draft) -> Command {
+    let halted = draft.model().machine().halted;
+    match random.below(84) {
         0..=19 if halted => anew(random),
-        0..=27 => Call::Micro,
-        28..=47 => Call::Step,
-        48..=74 => any_run(random, list),
-        75..=91 => reading(random),
-        92 => Call::ClearHistory,
+        0..=27 => Command::Micro,
+        28..=47 => Command::Step,
+        48..=74 => any_run(random, draft),
+        75 => Command::ClearHistory,
         _ => anew(random),
     }
 }
 
-fn anew(random: &mut Random) -> Call {
+fn anew(random: &mut Random) -> Command {
     match random.below(10) {
-        0..=4 => Call::Reset,
-        5..=7 => Call::Load(programs::any(random)),
-        8 => Call::Clear,
-        _ => Call::New,
-    }
-}
-
-fn reading(random: &mut Random) -> Call {
-    match random.below(6) {
-        0 => Call::Image,
-        1 => Call::IsRunning,
-        2 => Call::CurrentInstruction,
-        3 => Call::DisassembleAt(random.byte()),
-        4 => Call::TransferPosition,
-        _ => Call::HistoryLen,
+        0..=4 => Command::Reset,
+        5..=7 => Command::Load(programs::any(random)),
+        8 => Command::Clear,
+        _ => Command::New,
     }
 }
 
 /// Most runs have a small budget and some breakpoints: one that spends its
 /// budget leaves a halted machine.
-fn any_run(random: &mut Random, list: &List) -> Call {
+fn any_run(random: &mut Random, draft: &Draft) -> Command {
     let budget = match random.below(40) {
         0 => 0,
         1 => 1,
@@ -345,12 +356,12 @@ fn any_run(random: &mut Random, list: &List) -> Call {
         37 | 38 => 200 + random.below(600),
         _ => 1_000 + random.below(3_000),
     };
-    Call::Run(budget as u64, any_breakpoints(random, list))
+    Command::Run(budget as u64, any_breakpoints(random, draft))
 }
 
 /// Often near PC, where they are likely to be met.
-fn any_breakpoints(random: &mut Random, list: &List) -> Vec<u8> {
-    let pc = list.machine().pc;
+fn any_breakpoints(random: &mut Random, draft: &Draft) -> Vec<u8> {
+    let pc = draft.model().machine().pc;
     let near = |random: &mut Random| pc.wrapping_add(random.below(16) as u8).wrapping_sub(4);
     match random.below(6) {
         0 => Vec::new(),
@@ -359,48 +370,4 @@ fn any_breakpoints(random: &mut Random, list: &List) -> Vec<u8> {
         4 => (0..random.below(24)).map(|_| random.byte()).collect(),
         _ => (0..=255).filter(|_| random.below(8) == 0).collect(),
     }
-}
-
-/// Commands that are none, and operands that are not wholly there. The digest
-/// is once that of the commands before, as if nothing stood behind them, and
-/// once that of the commands with zeros for what is missing.
-pub fn malformed() -> Vec<(String, Vec<u8>)> {
-    let before = [Call::Load(vec![0x1105, HALT]), Call::Step];
-    let mut malformed = Vec::new();
-    for command in (0..=255).filter(|byte| !is_command(*byte)) {
-        let name = format!("unknown command {command:02X}");
-        malformed.push((name, with_behind(&before, &[command])));
-    }
-    for call in [
-        Call::Load(vec![0, 0]),
-        run(0),
-        Call::Run(0, vec![0, 0, 0]),
-        Call::DisassembleAt(0),
-    ] {
-        let whole = call.bytes();
-        let with_call = [&before[..], &[call]].concat();
-        for cut in 1..whole.len() {
-            let name = format!("{cut} bytes of a command of {}", whole.len());
-            malformed.push((name.clone(), with_behind(&before, &whole[..cut])));
-            malformed.push((name, cut_short(&with_call, whole.len() - cut)));
-        }
-    }
-    malformed.push(("half a digest".into(), b"L\0\0\0\0".to_vec()));
-    malformed
-}
-
-fn is_command(byte: u8) -> bool {
-    every_call().iter().any(|call| call.bytes()[0] == byte)
-}
-
-/// The record of these calls, with bytes behind it.
-fn with_behind(calls: &[Call], behind: &[u8]) -> Vec<u8> {
-    let record = calls::record(calls).bytes();
-    [&record[2..], behind].concat()
-}
-
-/// The record of these calls without its last bytes.
-fn cut_short(calls: &[Call], missing: usize) -> Vec<u8> {
-    let record = calls::record(calls).bytes();
-    record[2..record.len() - missing].to_vec()
 }

@@ -2,7 +2,7 @@
 use mathlib.Core.Path.{_≡_, ap, _∙_}
 use mathlib.Core.List.{List, _∷_, _++_, append-assoc, append-nil}
 use Prim.Native.Nat.{ℕ, suc, _+_, _-_, _*_, _/_, _%_, _^_, _≤_, _<_}
-use native.Mathlib.Nat.{le-add-right, pow-le-pow-right}
+use native.Mathlib.Nat.{add-zero, le-add-right, pow-le-pow-right}
 use native.Mathlib.Numerals.{add-one}
 use native.Mathlib.Omega.{arith}
 use lib.Dec.{lit<}
@@ -50,6 +50,11 @@ pub room : (i : ℕ) → i < 8 → 256 ^ i ≤ 72057594037927936
 room i h = pow-le-pow-right (lit< tt) {j = 7} (omega arith)
 
 -- ---- numbers read one after the other
+
+-- a word in its two bytes
+pub word-at : (d : List ℕ) (k : ℕ) → getD d k 0 * 256 + getD d (k + 1) 0 ≡ number 2 (drop k d)
+unfolding number
+word-at d k = rw (getD-drop k d 0 0, getD-drop k d 1 0, add-zero) (omega arith)
 
 pub numbers-turn : (w : ℕ) (d out : List ℕ) (at i k : ℕ) → i < length out
     → take (i + 1) (set out i (number w (drop (at + w * i) d))) ++ numbers w k (drop (at + w * (i + 1)) d) ≡ take i out ++ numbers w (suc k) (drop (at + w * i) d)

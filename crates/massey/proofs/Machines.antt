@@ -1,6 +1,6 @@
--- The laws of `specs/Machine.antt`: the words of an image, the machine that is started on them, a run of it, and loops of calls on it.
+-- The laws of `specs/Machine.antt`: the words of an image, the machine that is started on them, a run of it, and what a step of it leaves.
 -- Assumes nothing.
-use Prim.Native.Nat.{ℕ, suc, _+_, _*_, _-_, _/_, _≤_, _<_}
+use Prim.Native.Nat.{ℕ, _+_, _*_, _-_, _/_, _≤_, _<_}
 use native.Mathlib.Omega.{arith}
 use mathlib.Core.Path.{_≡_, refl, sym, ap, _∙_}
 use mathlib.Core.Bool.{Bool, true, false, cond}
@@ -21,7 +21,7 @@ use Rattle.vm.specs.Calls.{Outcome, refused, served, answered, outcomeIf, halte
 use Rattle.vm.specs.declared.micro.MicroOp.{MicroOp}
 use Rattle.vm.specs.declared.report.InstructionReport.{InstructionReport}
 use Rattle.vm.proofs.Starts.{new-ok}
-use Rattle.massey.specs.Machine.{wordCount, wordsOf, start, times, moving}
+use Rattle.massey.specs.Machine.{wordCount, wordsOf, start, moving}
 
 -- ---- the words of an image
 
@@ -143,27 +143,3 @@ after-tick s n a m ok e = let v = viewOf s in after s n a (haltedOp (v .state)) 
 pub after-step : (s : Code) (n : ℕ) (a : InstructionReport) (m : Machine) → isMachine s ≡ true → answered n a m ≡ stepOutcome (stepRefusalOf s) (viewOf s) → m ≡ moving (λ v. stepInstruction v .machine) (viewOf s)
 unfolding stepOutcome moving
 after-step s n a m ok e = let v = viewOf s in after s n a (haltedReport v) (instructionReport v) m (stepInstruction v .machine) ok e
-
--- ---- a loop of n steps
-
--- what is to come after i turns, m being there now; s the machine at the start
-pub record Going (f : Machine → Machine) (n i : ℕ) (s m : Code) : Type 0 where
-  pub few : i ≤ n
-  pub ok : isMachine m ≡ true
-  pub rest : times (n - i) f (viewOf m) ≡ times n f (viewOf s)
-
-module _ (f : Machine → Machine) (n : ℕ) {s : Code} where
-  pub at-start : isMachine s ≡ true → Going f n 0 s s
-  at-start ok = record { few = omega arith; ok = ok; rest = let k : n - 0 ≡ n = omega arith in ap (λ (j : ℕ). times j f (viewOf s)) k }
-
-  pub turned : {i : ℕ} {m w : Code} → i < n → Going f n i s m → isMachine w ≡ true → viewOf w ≡ f (viewOf m) → Going f n (i + 1) s w
-  unfolding times
-  turned {i} {m} {w} h g ok e =
-      let k : suc (n - (i + 1)) ≡ n - i = omega arith in
-      record { few = omega arith; ok = ok; rest = ap (times (n - (i + 1)) f) e ∙ ap (λ (j : ℕ). times j f (viewOf m)) k ∙ g .rest }
-
-  pub at-end : {i : ℕ} {m : Code} → n ≤ i → Going f n i s m → viewOf m ≡ times n f (viewOf s)
-  unfolding times
-  at-end {i} {m} h g =
-      let k : 0 ≡ n - i = omega arith in
-      ap (λ (j : ℕ). times j f (viewOf m)) k ∙ g .rest

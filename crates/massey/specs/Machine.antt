@@ -26,9 +26,9 @@ unfoldable pub start : List ℕ → Code
 start image = restarted (imageWords (wordsOf image)) (wordCount (length image)) 0
 
 -- f, n times
-unfoldable pub times : ℕ → (Machine → Machine) → Machine → Machine
-times zero f m = m
-times (suc n) f m = times n f (f m)
+unfoldable pub times : {A : Type 0} → ℕ → (A → A) → A → A
+times zero f a = a
+times (suc n) f a = times n f (f a)
 
 -- a halted machine stays as it is, and so does one that is refused 9
 unfoldable pub moving : (Machine → Machine) → Machine → Machine

@@ -15,7 +15,7 @@ fn word_count(bytes: usize) -> usize
 }
 
 // A new machine with the image's words loaded, high byte first; an odd byte at the end is none.
-fn started(image: &[u8]) -> Machine
+pub(crate) fn started(image: &[u8]) -> Machine
     ensures { λ r. ⌜ r ≡ start (now (image .entry)) ⌝ }
 {
     let n = word_count(image.len());

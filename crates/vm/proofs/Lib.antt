@@ -1,4 +1,4 @@
--- The laws by subject: `Lists` of `member` and `distinct`, `Checks` of the tests of a state, `Rings` of the trace's slots, `Ticks`, `Turns` and `Runs` of a tick, a turn of the loop over ticks and one over instructions, `Newest` of the texts that an instruction leaves in the trace and of its end, `Fits` of the calls by their tests, `Starts` of the calls that start a machine anew, and `Reached`, that served calls leave a machine.
+-- The laws by subject: `Lists` of `member` and `distinct`, `Checks` of the tests of a state, `Rings` of the trace's slots, `Ticks`, `Turns` and `Runs` of a tick, a turn of the loop over ticks and one over instructions, `Newest` of the texts that an instruction leaves in the trace and of its end, `Fits` of the calls by their tests, `Starts` of the calls that start a machine anew, `Histories` of the calls on the history, and `Reached`, that served calls leave a machine.
 pub mod Lists
 pub mod Checks
 pub mod Rings
@@ -8,4 +8,5 @@ pub mod Runs
 pub mod Newest
 pub mod Fits
 pub mod Starts
+pub mod Histories
 pub mod Reached

@@ -13,7 +13,9 @@ use Rattle.vm.specs.declared.machine.Machine.{Machine as Code}
 use Rattle.vm.specs.Refusal.{partsOk, refusal}
 use Rattle.vm.specs.Calls.{isMachine, refusalOf, restarted, imageWords, serve, loaded, reset, clear, clearHistory}
 use Rattle.tick.proofs.Lawfuls.{both}
+use Rattle.vm.specs.History.{saved, undone}
 use Rattle.vm.proofs.Starts.{new-ok}
+use Rattle.vm.proofs.Histories.{saved-lasts, undone-lasts}
 
 -- what a call answers where the machine is one
 served : (m new : Code) → isMachine m ≡ true → serve (refusalOf m) new m .machine ≡ new
@@ -47,13 +49,15 @@ pub clear-history-lasts : (m : Code) → isMachine m ≡ true → isMachine (cle
 unfolding clearHistory
 clear-history-lasts m e = rw (served m _ e) e
 
--- by which calls a machine is reached; `micro_step`, `step_instruction` and `run` promise `lasting`, and the readings leave the machine as it is
+-- by which calls a machine is reached, with any store; the image's array has 256 words, as its type tells; `micro_step`, `step_instruction` and `run` promise `lasting`, and the readings leave the machine as it is
 pub data Reached : Code → Type 0 where
   new : Reached (restarted (imageWords []) 0 0)
   load : (image : List ℕ) (m : Code) → Reached m → Reached (loaded image m .machine)
   again : (m : Code) → Reached m → Reached (reset m .machine)
   cleared : (m : Code) → Reached m → Reached (clear m .machine)
   forgotten : (m : Code) → Reached m → Reached (clearHistory m .machine)
+  kept : (n : ℕ) (m : Code) → Reached m → Reached (saved n m .machine)
+  undid : (d : List ℕ) (m : Code) → length (m .image) ≡ 256 → Reached m → Reached (undone d m .machine)
   moved : (m n : Code) → Reached m → (isMachine m ≡ true → isMachine n ≡ true) → Reached n
 
 pub never-refused : (m : Code) → Reached m → isMachine m ≡ true
@@ -62,4 +66,6 @@ never-refused _ (load image m r) = loaded-lasts image m (never-refused m r)
 never-refused _ (again m r) = reset-lasts m (never-refused m r)
 never-refused _ (cleared m r) = clear-lasts m (never-refused m r)
 never-refused _ (forgotten m r) = clear-history-lasts m (never-refused m r)
+never-refused _ (kept n m r) = saved-lasts n m (never-refused m r)
+never-refused _ (undid d m z r) = undone-lasts d m z (never-refused m r)
 never-refused _ (moved m n r lasting) = lasting (never-refused m r)

@@ -115,8 +115,9 @@ reset m = serve (refusalOf m) (restarted (m .image) (m .«image_len») (m .«his
 unfoldable pub clear : Code → Served
 clear m = serve (refusalOf m) (restarted (imageWords []) 0 0) m
 
-abbrev pub withoutHistory : Code → Code
-withoutHistory m = record {
+-- with another number of history records
+abbrev pub withHistory : ℕ → Code → Code
+withHistory n m = record {
   memory = m .memory;
   registers = m .registers;
   state = m .state;
@@ -132,11 +133,11 @@ withoutHistory m = record {
   «touched_len» = m .«touched_len»;
   image = m .image;
   «image_len» = m .«image_len»;
-  «history_len» = 0;
+  «history_len» = n;
 }
 
 unfoldable pub clearHistory : Code → Served
-clearHistory m = serve (refusalOf m) (withoutHistory m) m
+clearHistory m = serve (refusalOf m) (withHistory 0 m) m
 
 -- ---- the calls that read: the refusal or 0, and the value or zeros
 

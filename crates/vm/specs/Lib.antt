@@ -6,4 +6,5 @@ pub mod Run
 pub mod View
 pub mod Refusal
 pub mod Calls
+pub mod History
 pub mod Examples

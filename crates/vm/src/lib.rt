@@ -10,6 +10,7 @@ mod run;
 mod touched;
 mod trace;
 mod transfer;
+mod undo;
 
 pub use instruction::Ticks;
 pub use machine::Machine;

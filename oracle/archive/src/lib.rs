@@ -14,6 +14,22 @@ mod c {
         pub fn massey_steps(image: *const u8, image_len: usize, n: u64) -> u64;
         pub fn massey_ticks(image: *const u8, image_len: usize, n: u64) -> u64;
         pub fn massey_checks(image: *const u8, image_len: usize, budget: u64, n: u64) -> u64;
+        pub fn massey_pushes(
+            image: *const u8,
+            image_len: usize,
+            store: *mut u8,
+            store_len: usize,
+            count: u64,
+            n: u64,
+        ) -> u64;
+        pub fn massey_undos(
+            image: *const u8,
+            image_len: usize,
+            store: *const u8,
+            store_len: usize,
+            count: u64,
+            n: u64,
+        ) -> u64;
     }
 }
 
@@ -53,4 +69,18 @@ pub fn ticks(image: &[u8], n: u64) -> u64 {
 pub fn checks(image: &[u8], budget: u64, n: u64) -> u64 {
     // SAFETY: as above.
     unsafe { c::massey_checks(image.as_ptr(), image.len(), budget, n) }
+}
+
+/// How many records there are after `n` pushes to a store that has `count`.
+pub fn pushes(image: &[u8], store: &mut [u8], count: u64, n: u64) -> u64 {
+    let (at, length) = (store.as_mut_ptr(), store.len());
+    // SAFETY: as above, and the two slices cannot overlap.
+    unsafe { c::massey_pushes(image.as_ptr(), image.len(), at, length, count, n) }
+}
+
+/// How many records are left of `count` after `n` undoes.
+pub fn undos(image: &[u8], store: &[u8], count: u64, n: u64) -> u64 {
+    let (at, length) = (store.as_ptr(), store.len());
+    // SAFETY: as above.
+    unsafe { c::massey_undos(image.as_ptr(), image.len(), at, length, count, n) }
 }

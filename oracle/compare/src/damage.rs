@@ -165,10 +165,10 @@ fn wrong_lengths(replay: &Replay, record: &Record) -> Vec<(String, Vec<u8>)> {
     wrong
 }
 
-/// The question of 'P' and 'L' begins with a count; here it is another one
-/// than the bytes behind it say.
+/// The question of 'P' begins with a count of one byte, that of 'L' and 'R'
+/// with one of two; here it is another one than the bytes behind it say.
 fn wrong_counts(body: &[u8]) -> [Vec<u8>; 4] {
-    let low = if body[0] == b'L' { 2 } else { 1 };
+    let low = if body[0] == b'P' { 1 } else { 2 };
     let with = |at: usize, value: u8| {
         let mut changed = body.to_vec();
         changed[at] = value;

@@ -1,23 +1,33 @@
 //! Compares the port with the original at scale: its archive by calls, its
-//! programs through pipes. The last line is 'N passed, M failed'.
+//! programs through pipes. The last line is 'N passed, M failed'. An argument
+//! picks the parts whose name begins so.
 
 mod calls;
 mod damage;
 mod difference;
+mod dumps;
 mod listings;
 mod pipes;
 mod program;
 mod replay;
+mod scripts;
 mod tally;
 mod words;
 
 use oracle::replays::REPLAYS;
+use oracle::script_lists::FAMILIES;
+use std::cell::LazyCell;
+use std::env;
 use std::process::ExitCode;
 use tally::Tally;
 
 fn main() -> ExitCode {
+    let picked = env::args().nth(1).unwrap_or_default();
     let mut total = Tally::default();
     let mut part = |name: &str, compare: &dyn Fn(&mut Tally)| {
+        if !name.starts_with(&picked) {
+            return;
+        }
         let mut tally = Tally::default();
         compare(&mut tally);
         println!("{name}: {tally}");
@@ -27,7 +37,7 @@ fn main() -> ExitCode {
     part("archive, listings", &listings::compare);
     for replay in &REPLAYS {
         let name = |list: &str| format!("{}, {list}", replay.program);
-        let records = (replay.full)();
+        let records = LazyCell::new(replay.full);
         part(&name("full list"), &|tally| {
             replay::compare(tally, replay, &records)
         });
@@ -35,6 +45,12 @@ fn main() -> ExitCode {
             damage::compare(tally, replay, &records)
         });
     }
+    for family in &FAMILIES {
+        part(&format!("massey_calls, {}", family.name), &|tally| {
+            scripts::compare(tally, family)
+        });
+    }
+    part("massey_calls, pieces", &scripts::compare_pieces);
     part("listing program, pipes", &pipes::compare);
     println!("{total}");
     if total.failed() == 0 {

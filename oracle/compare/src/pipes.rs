@@ -71,7 +71,7 @@ fn expected(bytes: &[u8]) -> Vec<u8> {
 
 /// Writes in pieces, and rests now and then so that the program's reads come
 /// back short.
-fn feed(input: &mut ChildStdin, bytes: &[u8], piece: usize) -> io::Result<()> {
+pub fn feed(input: &mut ChildStdin, bytes: &[u8], piece: usize) -> io::Result<()> {
     for (index, part) in bytes.chunks(piece).enumerate() {
         input.write_all(part)?;
         input.flush()?;

@@ -1,9 +1,15 @@
 //! Runs one of the port's programs over a pipe.
 
 use oracle::places;
-use std::io::{self, ErrorKind};
+use std::io::{self, ErrorKind, Read};
 use std::process::{Child, ChildStdin, Command, Stdio};
+use std::sync::mpsc::{self, RecvTimeoutError};
 use std::thread;
+use std::time::Duration;
+
+/// How long a program may take. All are much quicker, and one that does not end
+/// must not hold up the comparison.
+const LONGEST: Duration = Duration::from_secs(120);
 
 /// Starts the program, lets `feed` write its input, and gives what it wrote to
 /// standard output. A message to standard error or a bad end is an error.
@@ -12,28 +18,60 @@ pub fn run(
     feed: impl FnOnce(&mut ChildStdin) -> io::Result<()> + Send,
 ) -> Result<Vec<u8>, String> {
     let mut child = start(name)?;
-    let mut input = child.stdin.take().expect("standard input is piped");
-    // The input is written beside the reading, lest both sides wait.
-    let (output, fed) = thread::scope(|scope| {
-        let feeding = scope.spawn(move || feed(&mut input));
-        (
-            child.wait_with_output(),
-            feeding.join().expect("feeding does not panic"),
-        )
-    });
-    let output = output.map_err(|error| format!("{name}: {error}"))?;
+    let piped = pipe(&mut child, feed);
+    let status = child.wait().map_err(|error| format!("{name}: {error}"))?;
+    if !piped.in_time {
+        return Err(format!("{name}: not at its end after {LONGEST:?}"));
+    }
     // A program may stop reading once its answer is decided.
-    if let Err(error) = fed.or_else(ignore_closed) {
+    if let Err(error) = piped.fed.or_else(ignore_closed) {
         return Err(format!("{name}: writing its input: {error}"));
     }
-    if !output.status.success() || !output.stderr.is_empty() {
-        let complaint = String::from_utf8_lossy(&output.stderr);
-        return Err(format!(
-            "{name}: {}, standard error {complaint:?}",
-            output.status
-        ));
+    let read = piped
+        .output
+        .and_then(|output| Ok((output, piped.complaint?)));
+    let (output, complaint) = read.map_err(|error| format!("{name}: {error}"))?;
+    if !status.success() || !complaint.is_empty() {
+        let complaint = String::from_utf8_lossy(&complaint);
+        return Err(format!("{name}: {status}, standard error {complaint:?}"));
     }
-    Ok(output.stdout)
+    Ok(output)
+}
+
+/// What came of a program's three pipes.
+struct Piped {
+    fed: io::Result<()>,
+    output: io::Result<Vec<u8>>,
+    complaint: io::Result<Vec<u8>>,
+    in_time: bool,
+}
+
+/// The input is written beside the reading, lest both sides wait.
+fn pipe(child: &mut Child, feed: impl FnOnce(&mut ChildStdin) -> io::Result<()> + Send) -> Piped {
+    let mut input = child.stdin.take().expect("standard input is piped");
+    let output = child.stdout.take().expect("standard output is piped");
+    let complaint = child.stderr.take().expect("standard error is piped");
+    let (open, ended) = mpsc::channel::<()>();
+    thread::scope(|scope| {
+        let feeding = scope.spawn(move || feed(&mut input));
+        let complaining = scope.spawn(move || read(complaint));
+        let reading = scope.spawn(move || {
+            let _open = open;
+            read(output)
+        });
+        // Nothing is ever sent: the sender goes where the output ends.
+        let in_time = ended.recv_timeout(LONGEST) != Err(RecvTimeoutError::Timeout);
+        if !in_time {
+            // It fails only where the program has just ended by itself.
+            let _ = child.kill();
+        }
+        Piped {
+            fed: joined(feeding),
+            output: joined(reading),
+            complaint: joined(complaining),
+            in_time,
+        }
+    })
 }
 
 fn start(name: &str) -> Result<Child, String> {
@@ -44,6 +82,16 @@ fn start(name: &str) -> Result<Child, String> {
         .stderr(Stdio::piped())
         .spawn()
         .map_err(|error| format!("{} cannot be started: {error}", path.display()))
+}
+
+fn read(mut from: impl Read) -> io::Result<Vec<u8>> {
+    let mut bytes = Vec::new();
+    from.read_to_end(&mut bytes)?;
+    Ok(bytes)
+}
+
+fn joined<T>(thread: thread::ScopedJoinHandle<T>) -> T {
+    thread.join().expect("the pipes' threads do not panic")
 }
 
 fn ignore_closed(error: io::Error) -> io::Result<()> {

@@ -2,13 +2,15 @@
 //! sample image with its listing; or prints a list.
 
 use oracle::replays::{Replay, REPLAYS};
-use oracle::{places, record, sample};
+use oracle::script_lists::FAMILIES;
+use oracle::{places, record, sample, sample_script, scripts};
 use std::io::Write;
 use std::path::{Path, PathBuf};
 use std::process::ExitCode;
 use std::{env, fs, io};
 
-const USAGE: &str = "usage: fixtures [--to FOLDER | --list PROGRAM FIXED | --list PROGRAM FULL]";
+const USAGE: &str = "usage: fixtures [--to FOLDER | --list PROGRAM FIXED | --list PROGRAM FULL | \
+                     --script FAMILY NUMBER | --answer FAMILY NUMBER]";
 
 fn main() -> ExitCode {
     let arguments: Vec<String> = env::args().skip(1).collect();
@@ -18,6 +20,10 @@ fn main() -> ExitCode {
         ["--to", folder] => write(&PathBuf::from(folder)),
         ["--list", program, "FIXED"] => print(program, |replay| replay.fixed),
         ["--list", program, "FULL"] => print(program, |replay| replay.full),
+        ["--script", family, number] => print_script(family, number, |script| script),
+        ["--answer", family, number] => {
+            print_script(family, number, |script| scripts::output(&script))
+        }
         _ => Err(io::Error::other(USAGE)),
     };
     match done {
@@ -35,20 +41,27 @@ fn write(crates: &Path) -> io::Result<()> {
         let records = (replay.fixed)();
         let line = format!("{} passed, 0 failed\n", records.len());
         let list = record::list_bytes(&records);
-        write_program(&crates.join(replay.program), &list, &line)?;
+        write_program(&crates.join(replay.program), &list, line.as_bytes())?;
     }
     write_program(
         &crates.join("massey_listing"),
         &sample::image(),
-        &sample::listing(),
+        sample::listing().as_bytes(),
+    )?;
+    let script = sample_script::script();
+    write_program(
+        &crates.join("massey_calls"),
+        &script,
+        &scripts::output(&script),
     )
 }
 
-fn write_program(folder: &Path, stdin: &[u8], stdout: &str) -> io::Result<()> {
+fn write_program(folder: &Path, stdin: &[u8], stdout: &[u8]) -> io::Result<()> {
     fs::create_dir_all(folder)?;
     fs::write(folder.join("stdin"), stdin)?;
     fs::write(folder.join("stdout"), stdout)?;
-    println!("{}: {} bytes", folder.display(), stdin.len());
+    let (read, written) = (stdin.len(), stdout.len());
+    println!("{}: {read} bytes in, {written} out", folder.display());
     Ok(())
 }
 
@@ -56,4 +69,19 @@ fn print(program: &str, list: fn(&Replay) -> fn() -> Vec<record::Record>) -> io:
     let replay = REPLAYS.iter().find(|replay| replay.program == program);
     let records = list(replay.ok_or_else(|| io::Error::other(USAGE))?)();
     io::stdout().lock().write_all(&record::list_bytes(&records))
+}
+
+/// A script of `massey_calls`, as `compare` names it, or what is due for it.
+fn print_script(family: &str, number: &str, form: fn(Vec<u8>) -> Vec<u8>) -> io::Result<()> {
+    let family = FAMILIES.iter().find(|one| one.name == family);
+    let number = number.parse().ok();
+    let (Some(family), Some(number)) = (family, number) else {
+        return Err(io::Error::other(USAGE));
+    };
+    if number >= (family.count)() {
+        return Err(io::Error::other("there is no such script"));
+    }
+    io::stdout()
+        .lock()
+        .write_all(&form((family.script)(number)))
 }

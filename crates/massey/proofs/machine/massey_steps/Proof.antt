@@ -1,12 +1,14 @@
 -- Assumes nothing.
 use Prim.Native.Nat.{_-_}
-use mathlib.Core.Path.{ap, _∙_}
+use mathlib.Core.Path.{_≡_, ap, _∙_}
+use mathlib.Core.Bool.{true}
 use denote.Ref.{now}
 use Rattle.vm.specs.Machine.{Machine}
 use Rattle.vm.specs.Instruction.{stepInstruction}
 use Rattle.vm.specs.Calls.{viewOf, isMachine}
 use Rattle.massey.specs.Machine.{times, moving, madeBy, stepsCount}
-use Rattle.massey.proofs.Machines.{start-ok, after-step, Going, at-start, turned, at-end}
+use Rattle.massey.proofs.Machines.{start-ok, after-step}
+use Rattle.massey.proofs.Loops.{Going, at-start, turned, at-end}
 use borrow.Author.Needs.{needs}
 use Rattle.massey.proofs.machine.massey_steps.Statement.{statement}
 use Rattle.massey.proofs.machine.massey_steps.Tie as tie
@@ -15,7 +17,7 @@ abbrev move : Machine → Machine
 move = moving (λ v. stepInstruction v .machine)
 
 abbrev Inv-loop : tie.InvT-loop
-Inv-loop image n m₀ i₀ m i = Going move n i m₀ m
+Inv-loop image n m₀ i₀ m i = Going move n i (viewOf m₀) (viewOf m) × (isMachine m ≡ true)
 
 abbrev μ-loop : tie.MeasureT-loop
 μ-loop image n m₀ i₀ m i = n - i
@@ -26,7 +28,7 @@ started-requires c κs = search needs
 loop-holds : tie.Need-loop-holds Inv-loop μ-loop
 loop-holds c =
     let a = c .before .before .args in
-    at-start move (a .n) (ap isMachine (c .started .ensures) ∙ start-ok (now (a .image)))
+    (at-start move (a .n) _, ap isMachine (c .started .ensures) ∙ start-ok (now (a .image)))
 
 step-instruction-requires : tie.Need-step-instruction-requires Inv-loop μ-loop
 step-instruction-requires c κs = search needs
@@ -42,7 +44,7 @@ loop-again c =
     let l = c .before .before .before .loop in
     let r = c .before .step-instruction .result in
     let e = c .before .step-instruction .ensures in
-    turned move _ (c .before .before .loop-test .taken) (l .inv) (e .1 .1 .1 (l .inv .ok)) (after-step (l .m) (r .refused) (r .report) (viewOf (r .machine)) (l .inv .ok) (e .0))
+    (turned move _ _ (c .before .before .loop-test .taken) (l .inv .0) (after-step (l .m) (r .refused) (r .report) (viewOf (r .machine)) (l .inv .1) (e .0)), e .1 .1 .1 (l .inv .1))
 
 returns : tie.Need-returns Inv-loop μ-loop
 unfolding stepsCount
@@ -50,7 +52,7 @@ returns c =
     let l = c .before .loop in
     let s = c .before .before in
     let n = s .before .before .args .n in
-    ap madeBy (at-end move n (c .loop-test .left) (l .inv)) ∙ ap (λ s. madeBy (times n move (viewOf s))) (s .started .ensures)
+    ap madeBy (at-end move n _ (c .loop-test .left) (l .inv .0)) ∙ ap (λ s. madeBy (times n move (viewOf s))) (s .started .ensures)
 
 pub massey-steps-spec : {M : Type 1} → statement M
 massey-steps-spec =

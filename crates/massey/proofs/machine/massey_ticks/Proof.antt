@@ -1,11 +1,13 @@
 -- Assumes nothing.
 use Prim.Native.Nat.{_-_}
-use mathlib.Core.Path.{ap, _∙_}
+use mathlib.Core.Path.{_≡_, ap, _∙_}
+use mathlib.Core.Bool.{true}
 use denote.Ref.{now}
 use Rattle.vm.specs.Machine.{Machine, microStep}
 use Rattle.vm.specs.Calls.{viewOf, isMachine}
 use Rattle.massey.specs.Machine.{times, moving, madeBy, ticksCount}
-use Rattle.massey.proofs.Machines.{start-ok, after-tick, Going, at-start, turned, at-end}
+use Rattle.massey.proofs.Machines.{start-ok, after-tick}
+use Rattle.massey.proofs.Loops.{Going, at-start, turned, at-end}
 use borrow.Author.Needs.{needs}
 use Rattle.massey.proofs.machine.massey_ticks.Statement.{statement}
 use Rattle.massey.proofs.machine.massey_ticks.Tie as tie
@@ -14,7 +16,7 @@ abbrev move : Machine → Machine
 move = moving microStep
 
 abbrev Inv-loop : tie.InvT-loop
-Inv-loop image n m₀ i₀ m i = Going move n i m₀ m
+Inv-loop image n m₀ i₀ m i = Going move n i (viewOf m₀) (viewOf m) × (isMachine m ≡ true)
 
 abbrev μ-loop : tie.MeasureT-loop
 μ-loop image n m₀ i₀ m i = n - i
@@ -25,7 +27,7 @@ started-requires c κs = search needs
 loop-holds : tie.Need-loop-holds Inv-loop μ-loop
 loop-holds c =
     let a = c .before .before .args in
-    at-start move (a .n) (ap isMachine (c .started .ensures) ∙ start-ok (now (a .image)))
+    (at-start move (a .n) _, ap isMachine (c .started .ensures) ∙ start-ok (now (a .image)))
 
 micro-step-requires : tie.Need-micro-step-requires Inv-loop μ-loop
 micro-step-requires c κs = search needs
@@ -41,7 +43,7 @@ loop-again c =
     let l = c .before .before .before .loop in
     let r = c .before .micro-step .result in
     let e = c .before .micro-step .ensures in
-    turned move _ (c .before .before .loop-test .taken) (l .inv) (e .1 .1 .1 (l .inv .ok)) (after-tick (l .m) (r .refused) (r .op) (viewOf (r .machine)) (l .inv .ok) (e .0))
+    (turned move _ _ (c .before .before .loop-test .taken) (l .inv .0) (after-tick (l .m) (r .refused) (r .op) (viewOf (r .machine)) (l .inv .1) (e .0)), e .1 .1 .1 (l .inv .1))
 
 returns : tie.Need-returns Inv-loop μ-loop
 unfolding ticksCount
@@ -49,7 +51,7 @@ returns c =
     let l = c .before .loop in
     let s = c .before .before in
     let n = s .before .before .args .n in
-    ap madeBy (at-end move n (c .loop-test .left) (l .inv)) ∙ ap (λ s. madeBy (times n move (viewOf s))) (s .started .ensures)
+    ap madeBy (at-end move n _ (c .loop-test .left) (l .inv .0)) ∙ ap (λ s. madeBy (times n move (viewOf s))) (s .started .ensures)
 
 pub massey-ticks-spec : {M : Type 1} → statement M
 massey-ticks-spec =

@@ -1,0 +1,4 @@
+pub mod Record
+pub mod Store
+pub mod Differences
+pub mod Rust

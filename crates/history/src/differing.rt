@@ -1,0 +1,25 @@
+// The addresses where memory and image differ: `touched` after an undo.
+ghost use mathlib.Core.Path.{_≡_};
+ghost use Rattle.history.specs.Differences.{differencesOf};
+
+pub struct Differences {
+    pub addresses: [u8; 256],
+    pub count: usize,
+}
+
+// The addresses, ascending, and zeros behind them.
+pub fn differing_addresses(image: [u16; 256], memory: [u16; 256]) -> Differences
+    ensures { λ r. ⌜ r ≡ differencesOf image memory ⌝ }
+{
+    let mut addresses = [0u8; 256];
+    let mut count: usize = 0;
+    let mut i: usize = 0;
+    while i < 256 {
+        if image[i] != memory[i] {
+            addresses[count] = i as u8;
+            count += 1;
+        }
+        i += 1;
+    }
+    Differences { addresses, count }
+}

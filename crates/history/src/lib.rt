@@ -1,0 +1,14 @@
+// The history of the machine in a lent store (01, section 7): records of 576 bytes, oldest first, and
+// what `undo` needs beside them.
+mod differing;
+mod layout;
+mod snapshot;
+mod store;
+
+pub use differing::Differences;
+pub use differing::differing_addresses;
+pub use snapshot::Newest;
+pub use snapshot::Snapshot;
+pub use store::history_limit;
+pub use store::newest_record;
+pub use store::push_record;

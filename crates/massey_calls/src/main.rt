@@ -1,0 +1,44 @@
+// The call program: a list of calls on a machine on standard input, each call's answer on standard
+// output.
+mod calls;
+mod dump;
+mod list;
+mod output;
+mod set;
+mod state;
+
+use encoding::get_number;
+use libc::STDIN_FILENO;
+use output::write_malformed;
+
+// The longest input that is played, and one byte more, by which a longer one is noticed.
+const INPUT: usize = 262145;
+
+// The longest store.
+const STORE: u64 = 65536;
+
+// Plays an input that begins as it should: its first four bytes are the store's length.
+fn play(input: &[u8]) {
+    if input.len() < 4 {
+        write_malformed();
+        return;
+    }
+    let size = get_number(input, 0, 4);
+    if STORE < size {
+        write_malformed();
+        return;
+    }
+    let len = size as usize;
+    let mut store = io::large_buffer();
+    list::play(input, &mut store[0..len]);
+}
+
+fn main() {
+    let mut input = [0u8; INPUT];
+    let n = io::read_full(STDIN_FILENO, &mut input);
+    if n == INPUT {
+        write_malformed();
+        return;
+    }
+    play(&input[..n]);
+}

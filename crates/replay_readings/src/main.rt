@@ -1,0 +1,93 @@
+// Replays the readings of a machine from standard input. Each record has an image, a number of ticks,
+// and what every call that only reads a machine answers after them in the original in Rust; it passes
+// where the port answers the same. What is written is one line: how many passed and how many failed.
+// Reading and counting stand here as they do in replay_tick: a library's functions say by an equation
+// what they do, and none can say what is read.
+mod readings;
+
+use libc::STDIN_FILENO;
+use libc::STDOUT_FILENO;
+use replay::word_at;
+
+// What became of the next record: `End` where the list has no more.
+enum Verdict {
+    Passed,
+    Failed,
+    End,
+}
+
+// Whether a record is one that the original would write. Where the kind is missing or unknown, it is
+// not.
+fn passes(record: &[u8]) -> bool {
+    if record.len() == 0 {
+        return false;
+    }
+    let kind = record[0];
+    match kind {
+        b'R' => readings::passes(record),
+        _ => false,
+    }
+}
+
+// Fills `body` with a record and tests it. Where the list ends within it, what was there failed.
+fn body_verdict(body: &mut [u8]) -> Verdict {
+    let got = io::read_full(STDIN_FILENO, body);
+    if got < body.len() {
+        return Verdict::Failed;
+    }
+    if passes(body) {
+        Verdict::Passed
+    } else {
+        Verdict::Failed
+    }
+}
+
+// The next record. `buffer` has room for the longest that two bytes of length can announce, so that
+// a record of any length is read whole, and the next begins where it should. A read that fails is
+// taken for the list's end.
+fn next_verdict(buffer: &mut [u8]) -> Verdict {
+    let mut head = [0u8; 2];
+    let got = io::read_full(STDIN_FILENO, &mut head);
+    if got == 0 {
+        return Verdict::End;
+    }
+    if got < 2 {
+        return Verdict::Failed;
+    }
+    let n = word_at(&head, 0) as usize;
+    if buffer.len() < n {
+        return Verdict::Failed;
+    }
+    body_verdict(&mut buffer[0..n])
+}
+
+// The line that the program writes.
+fn print_counts(passed: u64, failed: u64) {
+    io::print_decimal(STDOUT_FILENO, passed);
+    io::write_all(STDOUT_FILENO, b" passed, ");
+    io::print_decimal(STDOUT_FILENO, failed);
+    io::write_all(STDOUT_FILENO, b" failed\n");
+}
+
+// Counts the records to the list's end. A proved loop has to end, and nothing says that the input
+// does, so it counts its turns down, from a number that no run uses up.
+fn replay(buffer: &mut [u8]) {
+    let mut passed: u64 = 0;
+    let mut failed: u64 = 0;
+    let mut turns = u64::MAX;
+    while turns > 0 {
+        turns -= 1;
+        let verdict = next_verdict(buffer);
+        match verdict {
+            Verdict::Passed => passed += 1,
+            Verdict::Failed => failed += 1,
+            Verdict::End => turns = 0,
+        }
+    }
+    print_counts(passed, failed);
+}
+
+fn main() {
+    let mut buffer = io::large_buffer();
+    replay(&mut buffer);
+}

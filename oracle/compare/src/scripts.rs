@@ -1,0 +1,111 @@
+//! `massey_calls`: every script through the program, byte by byte.
+
+use crate::tally::Tally;
+use crate::{dumps, pipes, program};
+use oracle::commands::Command;
+use oracle::script_lists::{Family, FAMILIES};
+use oracle::scripts::{self, Part};
+use std::env;
+use std::io::Write;
+
+/// Takes every so many-th script, for a short run.
+const EVERY: &str = "MASSEY_EVERY";
+/// How many commands are shown, and how many letters of each.
+const COMMANDS: usize = 6;
+const LETTERS: usize = 40;
+/// How many bytes are shown.
+const BYTES: usize = 16;
+/// How the input comes in pieces, and of how many scripts in each family.
+const PIECES: [usize; 4] = [1, 5, 12, 100];
+const IN_PIECES: usize = 8;
+
+pub fn compare(tally: &mut Tally, family: &Family) {
+    for number in (0..(family.count)()).step_by(every()) {
+        compare_one(tally, family, number, None);
+    }
+}
+
+/// A few scripts of each family, whose bytes come in pieces.
+pub fn compare_pieces(tally: &mut Tally) {
+    for family in FAMILIES.iter().filter(|family| family.name != "lists") {
+        for number in 0..(family.count)().min(IN_PIECES) {
+            let piece = PIECES[number % PIECES.len()];
+            compare_one(tally, family, number, Some(piece));
+        }
+    }
+}
+
+fn every() -> usize {
+    let given = env::var(EVERY).ok();
+    let every = given.map_or(1, |text| text.parse().expect("MASSEY_EVERY is a number"));
+    assert!(every > 0, "MASSEY_EVERY is 1 or more");
+    every
+}
+
+/// One script, at once or in pieces.
+fn compare_one(tally: &mut Tally, family: &Family, number: usize, piece: Option<usize>) {
+    let script = (family.script)(number);
+    let wanted = scripts::output(&script);
+    let written = program::run("massey_calls", |input| match piece {
+        Some(piece) => pipes::feed(input, &script, piece),
+        None => input.write_all(&script),
+    });
+    let same = written.as_ref().is_ok_and(|output| *output == wanted);
+    tally.check(same, || {
+        let what = written.map_or_else(|error| error, |output| describe(&script, &output));
+        format!("massey_calls, script {} {number}: {what}", family.name)
+    });
+}
+
+/// The first command whose answer differs.
+fn describe(script: &[u8], output: &[u8]) -> String {
+    let parts = scripts::parts(script);
+    let mut from = 0;
+    for (index, part) in parts.iter().enumerate() {
+        let to = from + part.answer.len();
+        if output.get(from..to) != Some(&part.answer) {
+            return describe_last(&parts[..=index], &output[from..to.min(output.len())]);
+        }
+        from = to;
+    }
+    let more = output.len() - from;
+    format!("{more} bytes more than due: {}", hex(&output[from..]))
+}
+
+/// The last of these commands, the few before it, and where its answer first
+/// differs.
+fn describe_last(parts: &[Part], found: &[u8]) -> String {
+    let part = &parts[parts.len() - 1];
+    let shown: Vec<String> = parts.iter().rev().take(COMMANDS).rev().map(name).collect();
+    let same = found.iter().zip(&part.answer).take_while(|(a, b)| a == b);
+    let same = same.count();
+    let place = match part.command {
+        Some(Command::Dump) => format!(" ({})", dumps::place(&part.answer, same)),
+        _ => String::new(),
+    };
+    format!(
+        "command {} at byte {}, the last of [{}]: from byte {same}{place} of its answer {}, not {}",
+        parts.len() - 1,
+        part.at,
+        shown.join("; "),
+        hex(&found[same..]),
+        hex(&part.answer[same..]),
+    )
+}
+
+fn name(part: &Part) -> String {
+    let name = match &part.command {
+        Some(command) => format!("{command:X?}"),
+        None => "malformed".to_string(),
+    };
+    match name.len() <= LETTERS {
+        true => name,
+        false => format!("{}..", &name[..LETTERS]),
+    }
+}
+
+fn hex(bytes: &[u8]) -> String {
+    let more = if bytes.len() > BYTES { ".." } else { "" };
+    let digits = bytes.iter().take(BYTES).map(|byte| format!("{byte:02X}"));
+    format!("{}{more}", digits.collect::<Vec<_>>().join(" "))
+}

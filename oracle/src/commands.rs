@@ -1,0 +1,174 @@
+//! The commands of the call program `massey_calls`, as its script has them.
+
+/// One command, with its operands.
+#[derive(Clone, Debug, PartialEq, Eq)]
+pub enum Command {
+    New,
+    Load(Vec<u16>),
+    Reset,
+    Clear,
+    Micro,
+    Step,
+    Run(u64, Vec<u8>),
+    Push,
+    Undo,
+    ClearHistory,
+    Dump,
+    /// A field of the machine: its number, an index and a value.
+    Set(u8, u16, u64),
+    /// A byte of the store: its offset and its value.
+    Byte(u32, u8),
+}
+
+/// The numbers of the fields that `Command::Set` knows.
+pub mod field {
+    pub const PC: u8 = 0x00;
+    pub const IR: u8 = 0x01;
+    pub const REGISTER: u8 = 0x02;
+    pub const MAR: u8 = 0x03;
+    pub const MDR: u8 = 0x04;
+    pub const INSTRUCTION_ADDRESS: u8 = 0x05;
+    pub const TICK: u8 = 0x06;
+    pub const EXECUTE_TICKS: u8 = 0x07;
+    pub const HALTED: u8 = 0x08;
+    pub const INSTRUCTIONS: u8 = 0x09;
+    pub const MICRO_OPERATIONS: u8 = 0x0A;
+    pub const BUS_READS: u8 = 0x0B;
+    pub const BUS_WRITES: u8 = 0x0C;
+    pub const IMAGE_LENGTH: u8 = 0x0D;
+    pub const TRACE_COUNT: u8 = 0x0E;
+    pub const TEXT_LENGTH: u8 = 0x0F;
+    pub const TOUCHED_COUNT: u8 = 0x10;
+    pub const TOUCHED: u8 = 0x11;
+    pub const HISTORY_COUNT: u8 = 0x12;
+    pub const MEMORY: u8 = 0x13;
+    /// The first number that is no field.
+    pub const END: u8 = 0x14;
+    pub const COUNTERS: [u8; 4] = [INSTRUCTIONS, MICRO_OPERATIONS, BUS_READS, BUS_WRITES];
+}
+
+/// The first byte that is no command.
+pub const END: u8 = 0x0D;
+
+impl Command {
+    /// The byte that names the command.
+    pub fn number(&self) -> u8 {
+        match self {
+            Command::New => 0x00,
+            Command::Load(_) => 0x01,
+            Command::Reset => 0x02,
+            Command::Clear => 0x03,
+            Command::Micro => 0x04,
+            Command::Step => 0x05,
+            Command::Run(..) => 0x06,
+            Command::Push => 0x07,
+            Command::Undo => 0x08,
+            Command::ClearHistory => 0x09,
+            Command::Dump => 0x0A,
+            Command::Set(..) => 0x0B,
+            Command::Byte(..) => 0x0C,
+        }
+    }
+
+    /// The command as a script has it.
+    pub fn bytes(&self) -> Vec<u8> {
+        let mut bytes = vec![self.number()];
+        match self {
+            Command::Load(words) => put_words(&mut bytes, words),
+            Command::Run(budget, breakpoints) => put_run(&mut bytes, *budget, breakpoints),
+            Command::Set(field, index, value) => put_field(&mut bytes, *field, *index, *value),
+            Command::Byte(offset, value) => {
+                bytes.extend(offset.to_be_bytes());
+                bytes.push(*value);
+            }
+            _ => {}
+        }
+        bytes
+    }
+}
+
+fn put_words(bytes: &mut Vec<u8>, words: &[u16]) {
+    put_count(bytes, words.len());
+    bytes.extend(words.iter().flat_map(|word| word.to_be_bytes()));
+}
+
+fn put_run(bytes: &mut Vec<u8>, budget: u64, breakpoints: &[u8]) {
+    bytes.extend(budget.to_be_bytes());
+    put_count(bytes, breakpoints.len());
+    bytes.extend(breakpoints);
+}
+
+fn put_field(bytes: &mut Vec<u8>, field: u8, index: u16, value: u64) {
+    bytes.push(field);
+    bytes.extend(index.to_be_bytes());
+    bytes.extend(value.to_be_bytes());
+}
+
+fn put_count(bytes: &mut Vec<u8>, count: usize) {
+    let count = u16::try_from(count).expect("a count has two bytes");
+    bytes.extend(count.to_be_bytes());
+}
+
+/// What is left of a script.
+pub struct Input<'a>(pub &'a [u8]);
+
+impl<'a> Input<'a> {
+    pub fn is_empty(&self) -> bool {
+        self.0.is_empty()
+    }
+
+    /// The next command; none where its byte names none or an operand is not
+    /// wholly there.
+    pub fn command(&mut self) -> Option<Command> {
+        Some(match self.byte()? {
+            0x00 => Command::New,
+            0x01 => Command::Load(self.words()?),
+            0x02 => Command::Reset,
+            0x03 => Command::Clear,
+            0x04 => Command::Micro,
+            0x05 => Command::Step,
+            0x06 => Command::Run(self.number(8)?, self.counted_bytes()?),
+            0x07 => Command::Push,
+            0x08 => Command::Undo,
+            0x09 => Command::ClearHistory,
+            0x0A => Command::Dump,
+            0x0B => Command::Set(self.byte()?, self.word()?, self.number(8)?),
+            0x0C => Command::Byte(self.number(4)? as u32, self.byte()?),
+            _ => return None,
+        })
+    }
+
+    /// A number of so many bytes, high byte first.
+    pub fn number(&mut self, width: usize) -> Option<u64> {
+        let bytes = self.taken(width)?;
+        Some(
+            bytes
+                .iter()
+                .fold(0, |high, low| high << 8 | u64::from(*low)),
+        )
+    }
+
+    fn taken(&mut self, count: usize) -> Option<&'a [u8]> {
+        let (taken, rest) = self.0.split_at_checked(count)?;
+        self.0 = rest;
+        Some(taken)
+    }
+
+    fn byte(&mut self) -> Option<u8> {
+        Some(self.number(1)? as u8)
+    }
+
+    fn word(&mut self) -> Option<u16> {
+        Some(self.number(2)? as u16)
+    }
+
+    fn words(&mut self) -> Option<Vec<u16>> {
+        let count = self.word()?;
+        (0..count).map(|_| self.word()).collect()
+    }
+
+    fn counted_bytes(&mut self) -> Option<Vec<u8>> {
+        let count = self.word()?;
+        self.taken(count.into()).map(<[u8]>::to_vec)
+    }
+}
