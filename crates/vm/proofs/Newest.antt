@@ -32,14 +32,14 @@ copy-next b x o i h k e =
 
 module _ {A : Type 0} where
   -- the value in a slot
-  getD-slots : (n i : ℕ) (f : ℕ → A) (d : A) → i < n → getD (slots n f) i d ≡ f i
+  pub getD-slots : (n i : ℕ) (f : ℕ → A) (d : A) → i < n → getD (slots n f) i d ≡ f i
   unfolding slots
   getD-slots zero i f d h = absurd (omega arith)
   getD-slots (suc n) zero f d h = refl
   getD-slots (suc n) (suc i) f d h = getD-slots n i (λ k. f (suc k)) d (omega arith)
 
   -- the i-th from s on
-  getD-turn : (l : List A) (s i : ℕ) (d : A) → s < 512 → i < 512 → length l ≡ 512 → getD (turn l s) i d ≡ getD l ((s + i) % 512) d
+  pub getD-turn : (l : List A) (s i : ℕ) (d : A) → s < 512 → i < 512 → length l ≡ 512 → getD (turn l s) i d ≡ getD l ((s + i) % 512) d
   getD-turn l s i d hs hi e = go (decLt (s + i) 512)
     where
       go : Dec (s + i < 512) → getD (turn l s) i d ≡ getD l ((s + i) % 512) d

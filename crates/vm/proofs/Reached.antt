@@ -2,11 +2,11 @@
 -- Assumes nothing.
 use Prim.Native.Nat.{ℕ, _≤_}
 use native.Mathlib.Omega.{arith}
-use mathlib.Core.Path.{_≡_, refl, ap}
-use mathlib.Core.Bool.{Bool, true, false, cond}
+use mathlib.Core.Path.{_≡_, ap}
+use mathlib.Core.Bool.{Bool, true, cond}
 use mathlib.Core.List.{List, []}
-use borrow.Author.Tests.{leb-true, ltb-true}
-use lib.Dec.{eqb, leb, ltb}
+use borrow.Author.Tests.{leb-true}
+use lib.Dec.{eqb, leb}
 use lib.ListN.{length}
 use Rattle.tick.specs.Lawful.{lawful}
 use Rattle.vm.specs.declared.machine.Machine.{Machine as Code}
@@ -14,7 +14,7 @@ use Rattle.vm.specs.Refusal.{partsOk, refusal}
 use Rattle.vm.specs.Calls.{isMachine, refusalOf, restarted, imageWords, serve, loaded, reset, clear, clearHistory}
 use Rattle.tick.proofs.Lawfuls.{both}
 use Rattle.vm.specs.History.{saved, undone}
-use Rattle.vm.proofs.Starts.{new-ok}
+use Rattle.vm.proofs.Starts.{size-few, new-ok}
 use Rattle.vm.proofs.Histories.{saved-lasts, undone-lasts}
 
 -- what a call answers where the machine is one
@@ -26,16 +26,9 @@ size : (m : Code) → isMachine m ≡ true → m .«image_len» ≤ 256
 unfolding partsOk
 size m e = leb-true (m .«image_len») 256 (both (leb (m .«image_len») 256) _ (both (lawful (m .state .control)) _ e .1) .0)
 
-least : (n : ℕ) → cond (ltb n 256) n 256 ≤ 256
-least n = go (ltb n 256) refl
-  where
-    go : (b : Bool) → ltb n 256 ≡ b → cond b n 256 ≤ 256
-    go true e = omega (arith, ltb-true n 256 e)
-    go false e = omega arith
-
 pub loaded-lasts : (image : List ℕ) (m : Code) → isMachine m ≡ true → isMachine (loaded image m .machine) ≡ true
 unfolding loaded
-loaded-lasts image m e = rw (served m _ e) (new-ok (imageWords image) _ (m .«history_len») (least (length image)))
+loaded-lasts image m e = rw (served m _ e) (new-ok (imageWords image) _ (m .«history_len») (size-few (length image)))
 
 pub reset-lasts : (m : Code) → isMachine m ≡ true → isMachine (reset m .machine) ≡ true
 unfolding reset

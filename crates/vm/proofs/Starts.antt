@@ -2,10 +2,11 @@
 -- Assumes nothing.
 use Prim.Native.Nat.{ℕ, _≤_, _-_}
 use native.Mathlib.Omega.{arith}
-use mathlib.Core.Path.{_≡_, ap, sym, _∙_}
-use mathlib.Core.Bool.{Bool, true, _&&_}
+use mathlib.Core.Path.{_≡_, refl, ap, sym, _∙_}
+use mathlib.Core.Bool.{Bool, true, false, cond, _&&_}
 use mathlib.Core.List.{List, _++_}
-use borrow.Author.Tests.{le-leb}
+use borrow.Author.Tests.{le-leb, ltb-true}
+use lib.Dec.{ltb}
 use lib.ListN.{length, take, replicate}
 use lib.Seq.{take-all, length-take-le}
 use Rattle.isa.specs.Text.{padded}
@@ -15,7 +16,7 @@ use Rattle.vm.specs.declared.machine.Served.{Served}
 use Rattle.vm.specs.Trace.{liveLengths, shortTexts}
 use Rattle.vm.specs.Touched.{distinct}
 use Rattle.vm.specs.Refusal.{partsOk}
-use Rattle.vm.specs.Calls.{isMachine, restarted, imageWords, serve}
+use Rattle.vm.specs.Calls.{isMachine, restarted, imageWords, imageSize, serve}
 
 -- ---- a loop that copies an image: its end after i turns, i the length or 256
 
@@ -38,6 +39,13 @@ pub served-by : (m : Code) {r : Served} {n k : ℕ} {a b : Code} → r ≡ serve
 served-by m e p q = e ∙ (λ i. serve (p i) (q i) m)
 
 -- ---- a machine that was just switched on is a machine
+
+pub size-few : (n : ℕ) → imageSize n ≤ 256
+size-few n = go (ltb n 256) refl
+  where
+    go : (b : Bool) → ltb n 256 ≡ b → cond b n 256 ≤ 256
+    go true e = omega (arith, ltb-true n 256 e)
+    go false e = omega arith
 
 pub new-ok : (image : List ℕ) (n h : ℕ) → n ≤ 256 → isMachine (restarted image n h) ≡ true
 unfolding restarted partsOk lawful liveLengths shortTexts distinct

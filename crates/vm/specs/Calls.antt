@@ -102,12 +102,16 @@ restarted image n history = record {
 unfoldable pub imageWords : List ℕ → List ℕ
 imageWords image = take 256 image ++ replicate (256 - length image) 0
 
+-- how many of them there are, by the image's length
+abbrev pub imageSize : ℕ → ℕ
+imageSize n = cond (ltb n 256) n 256
+
 -- the new machine where the call is served, else the old one
 unfoldable pub serve : ℕ → Code → Code → Served
 serve n new old = record { refused = n; machine = cond (eqb n 0) new old }
 
 unfoldable pub loaded : List ℕ → Code → Served
-loaded image m = serve (refusalOf m) (restarted (imageWords image) (cond (ltb (length image) 256) (length image) 256) (m .«history_len»)) m
+loaded image m = serve (refusalOf m) (restarted (imageWords image) (imageSize (length image)) (m .«history_len»)) m
 
 unfoldable pub reset : Code → Served
 reset m = serve (refusalOf m) (restarted (m .image) (m .«image_len») (m .«history_len»)) m

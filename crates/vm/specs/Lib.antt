@@ -7,4 +7,6 @@ pub mod View
 pub mod Refusal
 pub mod Calls
 pub mod History
+pub mod Marks
+pub mod Guard
 pub mod Examples

@@ -16,9 +16,9 @@ use Rattle.vm.specs.Machine.{Machine}
 use Rattle.vm.specs.Instruction.{stepInstruction}
 
 -- before an instruction: go on, or stop
-pub data Verdict : Type 0 where
-  go : Verdict
-  stop : RunStop → Verdict
+pub data Verdict (A : Type 0) : Type 0 where
+  go : Verdict A
+  stop : A → Verdict A
 
 -- the stop of a halted machine, by its fault
 abbrev pub haltStop : Fault → RunStop
@@ -31,11 +31,11 @@ abbrev pub reached : List ℕ → ℕ → ℕ → Bool
 reached breaks k pc = cond (eqb k 0) false (member pc breaks)
 
 -- by the four tests in their order: halted, a breakpoint is reached, no budget is left, a counter is near its end
-abbrev pub verdictIf : Bool → Bool → Bool → Bool → State → Verdict
+abbrev pub verdictIf : Bool → Bool → Bool → Bool → State → Verdict RunStop
 verdictIf h b z f s = cond h (stop (haltStop (s .fault))) (cond b (stop (Breakpoint (s .control .pc))) (cond z (stop Budget) (cond f (stop (Refused 9)) go)))
 
 -- breakpoints, instructions begun, budget left
-abbrev pub verdict : List ℕ → ℕ → ℕ → Machine → Verdict
+abbrev pub verdict : List ℕ → ℕ → ℕ → Machine → Verdict RunStop
 verdict breaks k n m = verdictIf (m .state .control .halted) (reached breaks k (m .state .control .pc)) (eqb n 0) (overCounted (m .counters)) (m .state)
 
 pub record RunEnd : Type 0 where
@@ -75,7 +75,7 @@ closed (Refused n) m = m
 abbrev pub runEnd : ℕ → Machine → RunStop → RunEnd
 runEnd k m c = record { stop = c; executed = k; machine = closed c m }
 
-abbrev pub after : {A : Type 0} → Verdict → (RunStop → A) → (Unit {0} → A) → A
+abbrev pub after : {A B : Type 0} → Verdict A → (A → B) → (Unit {0} → B) → B
 after go f g = g tt
 after (stop c) f g = f c
 

@@ -1,8 +1,10 @@
 // The MASSEY machine: the arrays above one tick, instructions, runs, and the calls on a machine. Each
 // call takes the machine by value, checks it once, and gives it back.
 mod check;
+mod guard;
 mod instruction;
 mod machine;
+mod marks;
 mod micro;
 mod readings;
 mod report;
@@ -12,9 +14,13 @@ mod trace;
 mod transfer;
 mod undo;
 
+pub use guard::GuardedRun;
+pub use guard::GuardedStop;
+pub use guard::guarded_run;
 pub use instruction::Ticks;
 pub use machine::Machine;
 pub use machine::Served;
+pub use marks::Marks;
 pub use micro::MicroAnswer;
 pub use micro::MicroOp;
 pub use readings::ImageRead;

@@ -1,7 +1,7 @@
 // The machine by value, and the calls that start it anew.
 ghost use mathlib.Core.Path.{_≡_};
 ghost use mathlib.Core.List.{[]};
-ghost use Rattle.vm.specs.Calls.{coreOf, refusalOf, restarted, imageWords, serve, loaded, reset, clear, clearHistory};
+ghost use Rattle.vm.specs.Calls.{coreOf, refusalOf, restarted, imageWords, imageSize, serve, loaded, reset, clear, clearHistory};
 use crate::check::parts_ok;
 use crate::transfer::Core;
 use tick::AluRecord;
@@ -66,7 +66,7 @@ pub(crate) fn refusal_of(m: Machine) -> u8
 }
 
 // A machine that was just switched on with an image in memory.
-fn switched_on(image: [u16; 256], image_len: usize, history_len: usize) -> Machine
+pub(crate) fn switched_on(image: [u16; 256], image_len: usize, history_len: usize) -> Machine
     ensures { λ r. ⌜ r ≡ restarted image «image_len» «history_len» ⌝ }
 {
     let control = Control {
@@ -117,7 +117,7 @@ fn switched_on(image: [u16; 256], image_len: usize, history_len: usize) -> Machi
 }
 
 // The first 256 words, and zeros past them.
-fn image_words(image: &[u16]) -> [u16; 256]
+pub(crate) fn image_words(image: &[u16]) -> [u16; 256]
     ensures { λ r. ⌜ r ≡ imageWords (now (image .entry)) ⌝ }
 {
     let mut words = [0u16; 256];
@@ -130,6 +130,13 @@ fn image_words(image: &[u16]) -> [u16; 256]
         i += 1;
     }
     words
+}
+
+// How many words of an image of that length count.
+pub(crate) fn image_size(len: usize) -> usize
+    ensures { λ r. ⌜ r ≡ imageSize len ⌝ }
+{
+    if len < 256 { len } else { 256 }
 }
 
 // The new machine where the call is served, else the old one.
@@ -163,7 +170,7 @@ impl Machine {
     {
         let refused = refusal_of(self);
         let words = image_words(image);
-        let len = if image.len() < 256 { image.len() } else { 256 };
+        let len = image_size(image.len());
         let new = switched_on(words, len, self.history_len);
         serve_with(refused, new, self)
     }

@@ -48,7 +48,7 @@ fn contains(s: &[u8], b: u8) -> bool
 }
 
 // A breakpoint, never before the first instruction.
-fn at_break(breakpoints: &[u8], begun: u64, pc: u8) -> bool
+pub(crate) fn at_break(breakpoints: &[u8], begun: u64, pc: u8) -> bool
     ensures { λ r. ⌜ r ≡ reached (now (breakpoints .entry)) begun pc ⌝ }
 {
     if begun == 0 {
@@ -68,7 +68,7 @@ fn halt_stop(fault: Fault) -> RunStop
 }
 
 // The budget is spent.
-fn exhausted(s: Core) -> Core
+pub(crate) fn exhausted(s: Core) -> Core
     ensures { λ r. ⌜ r ≡ spentCore s ⌝ }
 {
     let old = s.state;

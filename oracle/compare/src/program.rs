@@ -2,6 +2,7 @@
 
 use oracle::places;
 use std::io::{self, ErrorKind, Read};
+use std::path::PathBuf;
 use std::process::{Child, ChildStdin, Command, Stdio};
 use std::sync::mpsc::{self, RecvTimeoutError};
 use std::thread;
@@ -74,8 +75,13 @@ fn pipe(child: &mut Child, feed: impl FnOnce(&mut ChildStdin) -> io::Result<()> 
     })
 }
 
+/// Where a program lies.
+pub fn path(name: &str) -> PathBuf {
+    places::from_root("MASSEY_BIN_DIR", "target/bin").join(name)
+}
+
 fn start(name: &str) -> Result<Child, String> {
-    let path = places::from_root("MASSEY_BIN_DIR", "target/bin").join(name);
+    let path = path(name);
     Command::new(&path)
         .stdin(Stdio::piped())
         .stdout(Stdio::piped())

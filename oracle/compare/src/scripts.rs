@@ -35,7 +35,8 @@ pub fn compare_pieces(tally: &mut Tally) {
     }
 }
 
-fn every() -> usize {
+/// Each so many-th script or case is taken.
+pub fn every() -> usize {
     let given = env::var(EVERY).ok();
     let every = given.map_or(1, |text| text.parse().expect("MASSEY_EVERY is a number"));
     assert!(every > 0, "MASSEY_EVERY is 1 or more");

@@ -3,14 +3,17 @@
 
 use oracle::replays::{Replay, REPLAYS};
 use oracle::script_lists::FAMILIES;
-use oracle::{places, record, sample, sample_script, scripts};
+use oracle::{places, record, report_lists, report_program, report_sample};
+use oracle::{sample, sample_script, scripts};
 use std::io::Write;
 use std::path::{Path, PathBuf};
 use std::process::ExitCode;
 use std::{env, fs, io};
 
 const USAGE: &str = "usage: fixtures [--to FOLDER | --list PROGRAM FIXED | --list PROGRAM FULL | \
-                     --script FAMILY NUMBER | --answer FAMILY NUMBER]";
+                     --script FAMILY NUMBER | --answer FAMILY NUMBER | \
+                     --report FAMILY NUMBER INPUT | --report-answer FAMILY NUMBER INPUT | \
+                     --report-sample]";
 
 fn main() -> ExitCode {
     let arguments: Vec<String> = env::args().skip(1).collect();
@@ -24,6 +27,13 @@ fn main() -> ExitCode {
         ["--answer", family, number] => {
             print_script(family, number, |script| scripts::output(&script))
         }
+        ["--report", family, number, input] => print_report(family, number, input, |input| input),
+        ["--report-answer", family, number, input] => {
+            print_report(family, number, input, |input| {
+                report_program::answer(&input)
+            })
+        }
+        ["--report-sample"] => io::stdout().lock().write_all(&report_sample::list()),
         _ => Err(io::Error::other(USAGE)),
     };
     match done {
@@ -84,4 +94,23 @@ fn print_script(family: &str, number: &str, form: fn(Vec<u8>) -> Vec<u8>) -> io:
     io::stdout()
         .lock()
         .write_all(&form((family.script)(number)))
+}
+
+/// An input of `massey_report`, as `compare` names it, or what is due for it.
+fn print_report(
+    family: &str,
+    number: &str,
+    input: &str,
+    form: fn(Vec<u8>) -> Vec<u8>,
+) -> io::Result<()> {
+    let family = report_lists::FAMILIES.iter().find(|one| one.name == family);
+    let (Some(family), Ok(number), Ok(input)) =
+        (family, number.parse::<usize>(), input.parse::<usize>())
+    else {
+        return Err(io::Error::other(USAGE));
+    };
+    let case = (number < (family.count)()).then(|| (family.inputs)(number));
+    let input = case.and_then(|inputs| inputs.into_iter().nth(input));
+    let input = input.ok_or_else(|| io::Error::other("there is no such input"))?;
+    io::stdout().lock().write_all(&form(input))
 }

@@ -1,0 +1,81 @@
+-- The call for a report, by its tests: what it answers where it is refused, and where the run that it made is served; and the report that it leaves.
+-- Assumes nothing.
+use Prim.Native.Nat.{ℕ, zero, suc, _≤_, _<_}
+use mathlib.Core.Path.{_≡_, refl, sym, ap, subst, _∙_}
+use mathlib.Core.Bool.{true}
+use mathlib.Core.List.{List}
+use borrow.Author.Tests.{leb-true, eq-eqb, ne-eqb, lt-ltb, le-ltb}
+use lib.Dec.{leb}
+use lib.ListN.{length, getD}
+use Rattle.encoding.proofs.Written.{take-over}
+use Rattle.isa.specs.Text.{padded, textOf}
+use Rattle.tick.specs.Lawful.{lawful}
+use Rattle.tick.proofs.Lawfuls.{both}
+use Rattle.vm.specs.declared.machine.Machine.{Machine as Code}
+use Rattle.vm.specs.Trace.{liveLengths, shortTexts}
+use Rattle.vm.specs.Refusal.{partsOk}
+use Rattle.vm.specs.Calls.{viewOf, isMachine}
+use Rattle.vm.specs.Machine.{Machine}
+use Rattle.vm.specs.Marks.{marked}
+use Rattle.vm.specs.Guard.{Input, GuardedEnd, inputRefusal, guardedOf}
+use Rattle.report.specs.declared.Reported.the-variants.{Refused}
+use Rattle.report.specs.Report.{noRecord, endBytes, reportOn, reportBytes}
+use Rattle.report.specs.Slots.{Reportable}
+use Rattle.report.specs.Public.{reportLimit, reportRefusal}
+use Rattle.report.specs.Outcome.{Outcome, outcome, served, unlessRefused, reportOutcome, reportIn}
+use Rattle.report.proofs.Bounds.{guarded-bounded, whole-array}
+
+-- ---- the machine that a guarded run leaves is one of which a report can be written
+
+module _ (m : Code) (ok : isMachine m ≡ true) where
+  counts-fit : (m .«trace_len» ≤ 512) × (m .«touched_len» ≤ 256)
+  unfolding partsOk
+  counts-fit =
+      let a = both (lawful (m .state .control)) _ ok .1 in
+      let b = both (leb (m .«image_len») 256) _ a .1 in
+      let c = both (leb (m .«trace_len») 512) _ b in
+      let d = both (shortTexts (liveLengths (m .«trace_start») (m .«trace_len») (m .lengths))) _ (c .1) .1 in
+      (leb-true (m .«trace_len») 512 (c .0), leb-true (m .«touched_len») 256 (both (leb (m .«touched_len») 256) _ d .0))
+
+  pub reportable : (i : Input) → viewOf m ≡ guardedOf marked i .guarded .machine → Reportable m
+  reportable i e = record {
+    trace = counts-fit .0;
+    touched = counts-fit .1;
+    texts = λ j. subst (λ (x : Machine). padded 32 (textOf (getD (x .trace) j noRecord .text)) ≡ getD (x .trace) j noRecord .text .bytes) (sym e) (whole-array _ (guarded-bounded marked i .texts j));
+  }
+
+-- ---- the answer
+
+module _ (i : Input) (out : List ℕ) where
+  pub call-refused : {n : ℕ} → n ≡ inputRefusal i → (n ≡ 0 → ⊥) → outcome (Refused n) out ≡ reportOutcome i out
+  unfolding reportOutcome reportRefusal
+  call-refused {n} e h =
+      let k : inputRefusal i ≡ 0 → ⊥ = λ z. h (e ∙ z) in
+      rw (ne-eqb (inputRefusal i) 0 k, ← e) (at n h)
+    where
+      at : (n : ℕ) → (n ≡ 0 → ⊥) → outcome (Refused n) out ≡ unlessRefused n out (served (reportBytes marked i) out)
+      at zero h = absurd (h refl)
+      at (suc n) h = refl
+
+  pub call-short : inputRefusal i ≡ 0 → length out < reportLimit → outcome (Refused 5) out ≡ reportOutcome i out
+  unfolding reportOutcome reportRefusal
+  call-short e h = rw (eq-eqb (inputRefusal i) 0 e, lt-ltb (length out) reportLimit h)
+
+  -- where nothing is refused
+  room : inputRefusal i ≡ 0 → reportLimit ≤ length out → reportRefusal i (length out) ≡ 0
+  unfolding reportRefusal
+  room e h = rw (eq-eqb (inputRefusal i) 0 e, le-ltb (length out) reportLimit h)
+
+  answered : reportRefusal i (length out) ≡ 0 → served (reportBytes marked i) out ≡ reportOutcome i out
+  unfolding reportOutcome
+  answered e = rw e
+
+  -- e is how the run ended, of which the report was written
+  pub call-served : (e : GuardedEnd) → e ≡ guardedOf marked i → inputRefusal i ≡ 0 → reportLimit ≤ length out → {o : Outcome}
+      → o ≡ served (reportOn marked i (record { stop = e .stop; executed = 0; guarded = e .guarded })) out → o ≡ reportOutcome i out
+  unfolding reportBytes reportOn endBytes
+  call-served e p q h r = r ∙ ap (λ (x : GuardedEnd). served (reportOn marked i x) out) p ∙ answered (room q h)
+
+  -- ---- the report that a call leaves
+  pub report-left : reportRefusal i (length out) ≡ 0 → reportIn (reportOutcome i out) ≡ reportBytes marked i
+  report-left e = ap reportIn (sym (answered e)) ∙ take-over out (reportBytes marked i)

@@ -1,0 +1,94 @@
+-- The records of kinds 04 to 08 from a machine's struct: the arrays of its trace hold them, the oldest in its slot.
+-- Assumes nothing.
+use Prim.Native.Nat.{ℕ, _+_, _*_, _%_, _≤_, _<_}
+use native.Mathlib.Omega.{arith}
+use mathlib.Core.Path.{_≡_, sym, ap, _∙_}
+use mathlib.Core.List.{List, [], _∷_, _++_, append-assoc}
+use lib.ListN.{length, take, getD, length-append}
+use lib.Seq.{getD-take, length-take-le}
+use Rattle.encoding.specs.Bytes.{over, eachFrom}
+use Rattle.encoding.proofs.Written.{length-each, length-joined, overs-eq}
+use Rattle.isa.specs.Text.{padded, textOf}
+use Rattle.vm.specs.declared.machine.Machine.{Machine as Code}
+use Rattle.vm.specs.declared.trace.TraceRecord.{TraceRecord}
+use Rattle.vm.specs.Calls.{viewOf}
+use Rattle.vm.specs.Marks.{marked}
+use Rattle.vm.specs.Trace.{slots, turn, recordAt, liveTrace}
+use Rattle.vm.proofs.Rings.{length-slots}
+use Rattle.vm.proofs.Newest.{getD-slots, getD-turn, trace-length}
+use Rattle.report.specs.Report.{traceBytes, traceRecord, noRecord, traceRecords, valueRecords, byteRecords, endRecord, endRecords}
+use Rattle.report.specs.Slots.{slotBytes, slotRecords, Reportable}
+use Rattle.report.proofs.Cut.{each-same}
+use Rattle.report.proofs.Lengths.{length-slot, length-values, length-bytes, length-end}
+
+-- record j of a trace
+live-at : (start n : ℕ) (x i a p l : List ℕ) (j : ℕ) → n ≤ 512 → j < n → getD (liveTrace start n x i a p l) j noRecord ≡ recordAt x i a p l ((start % 512 + j) % 512)
+unfolding liveTrace
+live-at start n x i a p l j h k =
+    let q = slots 512 (recordAt x i a p l) in
+    getD-take n (turn q (start % 512)) j noRecord k
+    ∙ getD-turn q (start % 512) j noRecord (omega arith) (omega arith) (length-slots 512 (recordAt x i a p l))
+    ∙ getD-slots 512 ((start % 512 + j) % 512) (recordAt x i a p l) noRecord (omega arith)
+
+-- the bytes of a slot are those of its record, where zeros stand behind its text
+slot-record : (x i a p l : List ℕ) (k : ℕ) (r : TraceRecord) → r ≡ recordAt x i a p l k → padded 32 (textOf (r .text)) ≡ r .text .bytes → slotBytes x i a p k ≡ traceRecord r
+unfolding traceRecord
+slot-record x i a p l k r e z =
+    ap (λ (q : TraceRecord). traceBytes (q .number) (q .address) (q .phase) (q .text .bytes)) (sym e)
+    ∙ ap (λ (y : List ℕ). traceBytes (r .number) (r .address) (r .phase) y) (sym z)
+
+abbrev slotsOf : Code → List ℕ
+slotsOf m = slotRecords (m .«trace_start») (m .«trace_len») (m .texts) (m .numbers) (m .addresses) (m .phases)
+
+trace-slots : (m : Code) → Reportable m → slotsOf m ≡ traceRecords (viewOf m .trace)
+unfolding slotRecords traceRecords
+trace-slots m r =
+    let t = viewOf m .trace in
+    let at : (j : ℕ) → j < m .«trace_len» → getD t j noRecord ≡ recordAt (m .texts) (m .numbers) (m .addresses) (m .phases) (m .lengths) ((m .«trace_start» % 512 + j) % 512) =
+    λ j h. live-at (m .«trace_start») (m .«trace_len») (m .texts) (m .numbers) (m .addresses) (m .phases) (m .lengths) j (r .trace) h in
+    each-same (λ j. slotBytes (m .texts) (m .numbers) (m .addresses) (m .phases) ((m .«trace_start» % 512 + j) % 512)) (λ j. traceRecord (getD t j noRecord)) 0 (m .«trace_len»)
+    (λ j h. slot-record (m .texts) (m .numbers) (m .addresses) (m .phases) (m .lengths) ((m .«trace_start» % 512 + j) % 512) (getD t j noRecord) (at j (omega arith)) (r .texts j))
+    ∙ ap (λ (n : ℕ). eachFrom (λ j. traceRecord (getD t j noRecord)) 0 n) (sym (trace-length (m .«trace_start») (m .«trace_len») (m .texts) (m .numbers) (m .addresses) (m .phases) (m .lengths) (r .trace)))
+
+length-slots-of : (m : Code) → length (m .texts) ≡ 16384 → length (slotsOf m) ≡ 43 * m .«trace_len»
+unfolding slotRecords
+length-slots-of m e =
+    length-each 43 (λ j. slotBytes (m .texts) (m .numbers) (m .addresses) (m .phases) ((m .«trace_start» % 512 + j) % 512)) 0 (m .«trace_len»)
+    (λ j. length-slot (m .texts) (m .numbers) (m .addresses) (m .phases) ((m .«trace_start» % 512 + j) % 512) e (omega arith))
+
+module _ (m : Code) (r : Reportable m) (stop mark : ℕ) (rm mm : List ℕ) where
+  abbrev cells : List ℕ
+  cells = valueRecords marked 5 16 (m .registers) rm ++ valueRecords marked 6 256 (m .memory) mm
+
+  abbrev last : List ℕ
+  last = byteRecords 7 (take (m .«touched_len») (m .touched)) ++ endRecord marked stop (m .state) (m .counters) mark
+
+  -- the pieces in one
+  run-bytes : slotsOf m ++ (cells ++ last) ≡ endRecords marked stop (viewOf m) (record { memory = mm; registers = rm; mdr = mark })
+  unfolding endRecords
+  run-bytes = rw (trace-slots m r, append-assoc (valueRecords marked 5 16 (m .registers) rm))
+
+  pub length-cells : length cells ≡ 1360
+  length-cells = simp (length-append, length-values marked 5 16 (m .registers) rm, length-values marked 6 256 (m .memory) mm)
+
+  pub length-last : length (m .touched) ≡ 256 → length last ≡ 2 * m .«touched_len» + 45
+  length-last e =
+      let h = r .touched in
+      let l : length (take (m .«touched_len») (m .touched)) ≡ m .«touched_len» = length-take-le (m .«touched_len») (m .touched) (omega arith) in
+      simp (length-append, length-bytes 7 (take (m .«touched_len») (m .touched)), l, length-end marked stop (m .state) (m .counters) mark)
+
+  -- as the three calls leave them
+  pub run-over : (d : List ℕ) (at : ℕ) → length (m .texts) ≡ 16384 → length (m .touched) ≡ 256 → at + (43 * m .«trace_len» + (1360 + (2 * m .«touched_len» + 45))) ≤ length d
+      → over (over (over d at (slotsOf m)) (at + 43 * m .«trace_len») cells) (at + 43 * m .«trace_len» + 1360) last
+      ≡ over d at (endRecords marked stop (viewOf m) (record { memory = mm; registers = rm; mdr = mark }))
+  run-over d at e f h =
+      overs-eq d at ((43 * m .«trace_len», slotsOf m) ∷ (1360, cells) ∷ (2 * m .«touched_len» + 45, last) ∷ [])
+      (length-slots-of m e, (length-cells, (length-last f, tt))) (omega arith)
+      ∙ ap (over d at) run-bytes
+
+  pub length-run : length (m .texts) ≡ 16384 → length (m .touched) ≡ 256
+      → length (endRecords marked stop (viewOf m) (record { memory = mm; registers = rm; mdr = mark })) ≡ 43 * m .«trace_len» + (1360 + (2 * m .«touched_len» + 45))
+  length-run e f =
+      ap length (sym run-bytes)
+      ∙ length-joined ((43 * m .«trace_len», slotsOf m) ∷ (1360, cells) ∷ (2 * m .«touched_len» + 45, last) ∷ []) (length-slots-of m e, (length-cells, (length-last f, tt)))
+      ∙ omega arith

@@ -1,0 +1,40 @@
+-- `put_start` meets its contract: the text lies behind the value.
+-- Assumes nothing.
+use mathlib.Core.List.{[], _∷_}
+use native.Mathlib.Omega.{arith}
+use Rattle.vm.specs.Marks.{marked}
+use Rattle.encoding.proofs.Written.{overs-eq}
+use Rattle.report.specs.Report.{valueRecord, shownText, startRecord}
+use Rattle.report.proofs.Shows.{length-value, length-shown}
+use borrow.Author.Needs.{needs}
+use Rattle.report.proofs.records.put_start.Statement.{statement}
+use Rattle.report.proofs.records.put_start.Tie as tie
+
+put-value-requires : tie.Need-put-value-requires
+put-value-requires c κs = search needs
+
+add-put-text : tie.Need-add-put-text
+add-put-text c = search needs
+
+put-text-requires : tie.Need-put-text-requires
+put-text-requires c κs = search needs
+
+same-length : tie.Need-same-length
+same-length c = search needs
+
+returns : tie.Need-returns
+unfolding startRecord
+returns c =
+    let p = c .before .before in
+    let q = p .before .before .before .before in
+    let s = q .before .before .before in
+    let a = s .args in
+    rw (p .put-text .ensures, q .put-value .ensures)
+    (overs-eq (a .out .now) (a .at)
+    ((5, valueRecord marked 2 (a .address) (a .mark) (a .word)) ∷ (32, shownText marked (a .mark) (a .word)) ∷ [])
+    (length-value marked 2 (a .address) (a .mark) (a .word), (length-shown marked (a .mark) (a .word), tt))
+    (omega (arith, s .pre)))
+
+pub put-start-spec : {M : Type 1} → statement M
+put-start-spec =
+    tie.close (tie.spec put-value-requires add-put-text put-text-requires same-length returns)

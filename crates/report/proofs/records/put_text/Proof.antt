@@ -1,0 +1,45 @@
+-- `put_text` meets its contract, by the mark.
+-- Assumes nothing.
+use Rattle.report.proofs.Shows.{text-open, text-marked}
+use borrow.Author.Needs.{needs}
+use Rattle.report.proofs.records.put_text.Statement.{statement}
+use Rattle.report.proofs.records.put_text.Tie as tie
+
+disassemble-into-requires : tie.Need-disassemble-into-requires
+disassemble-into-requires c κs = search needs
+
+same-length : tie.Need-same-length
+same-length c = search needs
+
+returns : tie.Need-returns
+returns c =
+    let p = c .before .before in
+    let s = p .before .before .before .before in
+    text-open (s .args .out .now) (s .args .at) (s .args .mark) (s .args .word) (s .pre) (p .before .before .if1 .taken) (p .disassemble-into .ensures .1)
+
+slice-aggregate-put-bytes : tie.Need-slice-aggregate-put-bytes
+slice-aggregate-put-bytes c = search needs
+
+put-bytes-requires : tie.Need-put-bytes-requires
+put-bytes-requires c κs = search needs
+
+same-length-2 : tie.Need-same-length-2
+same-length-2 c = search needs
+
+returns-2 : tie.Need-returns-2
+returns-2 c =
+    let p = c .before .before in
+    let s = p .before .before .before .before .before in
+    text-marked (s .args .out .now) (s .args .at) (s .args .mark) (s .args .word) (s .pre) (p .before .before .before .if1 .left) (p .put-bytes .ensures)
+
+pub put-text-spec : {M : Type 1} → statement M
+put-text-spec =
+    tie.close
+    (tie.spec
+    disassemble-into-requires
+    same-length
+    returns
+    slice-aggregate-put-bytes
+    put-bytes-requires
+    same-length-2
+    returns-2)

@@ -1,0 +1,48 @@
+-- `put_input` meets its contract: its pieces lie one behind the other.
+-- Assumes nothing.
+use Prim.Native.Nat.{_*_}
+use mathlib.Core.List.{[], _∷_}
+use native.Mathlib.Omega.{arith}
+use denote.Ref.{now}
+use lib.ListN.{length}
+use Rattle.vm.specs.Calls.{imageWords}
+use Rattle.vm.specs.Marks.{marked}
+use Rattle.encoding.proofs.Written.{overs-eq}
+use Rattle.report.specs.Report.{headRecord, startRecords, byteRecords}
+use Rattle.report.proofs.Shows.{length-head}
+use Rattle.report.proofs.Lengths.{length-starts, length-bytes}
+use borrow.Author.Needs.{needs}
+use Rattle.report.proofs.whole.put_input.Statement.{statement}
+use Rattle.report.proofs.whole.put_input.Tie as tie
+
+put-head-requires : tie.Need-put-head-requires
+put-head-requires c κs = search needs
+
+put-starts-requires : tie.Need-put-starts-requires
+put-starts-requires c κs = search needs
+
+put-list-requires : tie.Need-put-list-requires
+put-list-requires c κs = search needs
+
+same-length : tie.Need-same-length
+same-length c = search needs
+
+returns : tie.Need-returns
+returns c =
+    let p = c .before .before in
+    let q = p .before .before .before .before in
+    let r = q .before .before .before .before in
+    let s = r .before .before .before .before .before .before in
+    let a = s .args in
+    let image = now (a .image) in
+    let breaks = now (a .breakpoints) in
+    rw (p .put-list .ensures, q .put-starts .ensures, r .put-head .ensures)
+    (overs-eq (now (a .out)) 0
+    ((13, headRecord (length image) (a .budget) (length breaks)) ∷ (9472, startRecords marked (imageWords image) (now (a .marks))) ∷ (2 * length breaks, byteRecords 3 breaks) ∷ [])
+    (length-head (length image) (a .budget) (length breaks), (length-starts marked (imageWords image) (now (a .marks)), (length-bytes 3 breaks, tt)))
+    (omega (arith, s .pre)))
+
+pub put-input-spec : {M : Type 1} → statement M
+put-input-spec =
+    tie.close
+    (tie.spec put-head-requires put-starts-requires put-list-requires same-length returns)

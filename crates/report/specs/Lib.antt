@@ -1,0 +1,4 @@
+pub mod Report
+pub mod Slots
+pub mod Public
+pub mod Outcome

@@ -1,0 +1,44 @@
+-- What the call for a report answers, and the buffer that it leaves (01, sections 1 and 6).
+-- Assumes nothing.
+use Prim.Native.Nat.{ℕ, zero, suc}
+use mathlib.Core.List.{List, []}
+use lib.ListN.{length, take}
+use Rattle.encoding.specs.Bytes.{over}
+use Rattle.vm.specs.Marks.{marked}
+use Rattle.vm.specs.Guard.{Input}
+use Rattle.report.specs.declared.Reported.{Reported}
+use Rattle.report.specs.declared.Reported.the-variants.{Written, Refused}
+use Rattle.report.specs.Report.{reportBytes}
+use Rattle.report.specs.Public.{reportRefusal}
+
+pub record Outcome : Type 0 where
+  pub answer : Reported
+  pub buffer : List ℕ
+
+abbrev pub outcome : Reported → List ℕ → Outcome
+outcome a b = record { answer = a; buffer = b }
+
+-- a length, and the buffer
+abbrev pub written : ℕ → List ℕ → Outcome
+written n b = outcome (Written n) b
+
+-- the report r in the first bytes of the buffer, and its length; what stands behind it is kept
+abbrev pub served : List ℕ → List ℕ → Outcome
+served r out = written (length r) (over out 0 r)
+
+-- the number of the refusal alone, and the buffer as it was; where there is none, the second
+abbrev pub unlessRefused : ℕ → List ℕ → Outcome → Outcome
+unlessRefused zero out o = o
+unlessRefused (suc n) out o = outcome (Refused (suc n)) out
+
+unfoldable pub reportOutcome : Input → List ℕ → Outcome
+reportOutcome i out = unlessRefused (reportRefusal i (length out)) out (served (reportBytes marked i) out)
+
+-- the buffer's first bytes, as many as the returned length
+abbrev pub firstBytes : Reported → List ℕ → List ℕ
+firstBytes (Written n) b = take n b
+firstBytes (Refused n) b = []
+
+-- the report of a call
+abbrev pub reportIn : Outcome → List ℕ
+reportIn o = firstBytes (o .answer) (o .buffer)

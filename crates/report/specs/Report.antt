@@ -1,0 +1,111 @@
+-- The report of a guarded run (01, section 6), as a list of bytes. `hid` says which marks hide a value.
+-- Assumes nothing.
+use Prim.Native.Nat.{ℕ}
+use mathlib.Core.Bool.{Bool, cond}
+use mathlib.Core.List.{List, [], _∷_, _++_}
+use lib.ListN.{length, getD}
+use Rattle.encoding.specs.Bytes.{bigEndian, eachFrom}
+use Rattle.isa.specs.Text.{padded, text, textOf}
+use Rattle.disasm.specs.Disassembly.{disassembleText}
+use Rattle.tick.specs.declared.control.Fault.{Fault}
+use Rattle.tick.specs.declared.control.State.{State}
+use Rattle.tick.specs.declared.counters.Counters.{Counters}
+use Rattle.history.specs.Record.{codeOf}
+use Rattle.vm.specs.declared.trace.TraceRecord.{TraceRecord}
+use Rattle.vm.specs.Machine.{Machine}
+use Rattle.vm.specs.Calls.{imageWords}
+use Rattle.vm.specs.Marks.{Marks}
+use Rattle.vm.specs.Guard.{Input, GuardedEnd, stopNumber, guardedOf}
+
+-- kind 01, the head: image length, budget, breakpoint count
+unfoldable pub headRecord : ℕ → ℕ → ℕ → List ℕ
+headRecord len budget count = 1 ∷ (bigEndian 2 len ++ (bigEndian 8 budget ++ bigEndian 2 count))
+
+module _ (hid : ℕ → Bool) where
+  -- a hidden value is written 0: mark, value
+  unfoldable pub shown : ℕ → ℕ → ℕ
+  shown m v = cond (hid m) 0 v
+
+  -- the disassembly in 32 bytes, zero padded, all zero if hidden: mark, word
+  unfoldable pub shownText : ℕ → ℕ → List ℕ
+  shownText m w = padded 32 (cond (hid m) [] (disassembleText w))
+
+  -- kind, index, mark, value
+  unfoldable pub valueRecord : ℕ → ℕ → ℕ → ℕ → List ℕ
+  valueRecord kind i m v = kind ∷ i ∷ m ∷ bigEndian 2 (shown m v)
+
+  -- kind 02, a starting word: address, mark, value, disassembly
+  unfoldable pub startRecord : ℕ → ℕ → ℕ → List ℕ
+  startRecord a m w = valueRecord 2 a m w ++ shownText m w
+
+  -- one for each of 256 words: the words, their marks
+  unfoldable pub startRecords : List ℕ → List ℕ → List ℕ
+  startRecords words marks = eachFrom (λ a. startRecord a (getD marks a 0) (getD words a 0)) 0 256
+
+-- kind 03, a breakpoint, and kind 07, a touched address: kind, the list, the number in it
+unfoldable pub byteRecord : ℕ → List ℕ → ℕ → List ℕ
+byteRecord kind l i = kind ∷ getD l i 0 ∷ []
+
+-- one for each of the list, in its order: breakpoints as given, repeats kept; touched addresses in order of first writing
+unfoldable pub byteRecords : ℕ → List ℕ → List ℕ
+byteRecords kind l = eachFrom (byteRecord kind l) 0 (length l)
+
+-- number, address, phase, a text's 32 bytes
+unfoldable pub traceBytes : ℕ → ℕ → ℕ → List ℕ → List ℕ
+traceBytes number address phase bytes = 4 ∷ (bigEndian 8 number ++ (address ∷ phase ∷ bytes))
+
+-- kind 04, a trace record: the text is zero padded
+unfoldable pub traceRecord : TraceRecord → List ℕ
+traceRecord r = traceBytes (r .number) (r .address) (r .phase) (padded 32 (textOf (r .text)))
+
+-- what stands for one past the end
+abbrev pub noRecord : TraceRecord
+noRecord = record { number = 0; address = 0; phase = 0; text = text [] }
+
+-- the oldest first
+unfoldable pub traceRecords : List TraceRecord → List ℕ
+traceRecords trace = eachFrom (λ i. traceRecord (getD trace i noRecord)) 0 (length trace)
+
+-- kinds 05 and 06, registers by index and final words by address: kind, how many, the values, their marks
+unfoldable pub valueRecords : (ℕ → Bool) → ℕ → ℕ → List ℕ → List ℕ → List ℕ
+valueRecords hid kind n values marks = eachFrom (λ i. valueRecord hid kind i (getD marks i 0) (getD values i 0)) 0 n
+
+-- a fault: kind, word, address, all zero for none
+unfoldable pub faultBytes : Fault → List ℕ
+faultBytes f = codeOf f .kind ∷ (bigEndian 2 (codeOf f .word) ++ (codeOf f .address ∷ []))
+
+-- the four counts: instructions, micro operations, bus reads, bus writes
+unfoldable pub countBytes : Counters → List ℕ
+countBytes k = bigEndian 8 (k .instructions) ++ (bigEndian 8 (k .«micro_operations») ++ (bigEndian 8 (k .«bus_reads») ++ bigEndian 8 (k .«bus_writes»)))
+
+-- the registers of the control unit: PC, IR, MAR, MDR's mark, MDR as it is shown
+unfoldable pub controlBytes : ℕ → ℕ → ℕ → ℕ → ℕ → List ℕ
+controlBytes pc ir mar mark mdr = pc ∷ (bigEndian 2 ir ++ (mar ∷ mark ∷ bigEndian 2 mdr))
+
+module _ (hid : ℕ → Bool) where
+  -- kind 08, the end: stop, registers of the control unit, counts, fault
+  unfoldable pub endRecord : ℕ → State → Counters → ℕ → List ℕ
+  endRecord stop s k mark =
+      let c = s .control in
+      8 ∷ stop ∷ (controlBytes (c .pc) (c .ir) (c .mar) mark (shown hid mark (c .mdr)) ++ (countBytes k ++ faultBytes (s .fault)))
+
+  -- how the run ended, kinds 04 to 08: the stop's number, machine, marks
+  unfoldable pub endRecords : ℕ → Machine → Marks → List ℕ
+  endRecords stop m k =
+      traceRecords (m .trace)
+      ++ (valueRecords hid 5 16 (m .registers) (k .registers)
+      ++ (valueRecords hid 6 256 (m .memory) (k .memory)
+      ++ (byteRecords 7 (m .touched) ++ endRecord stop (m .state) (m .counters) (k .mdr))))
+
+  unfoldable pub endBytes : GuardedEnd → List ℕ
+  endBytes e = endRecords (stopNumber (e .stop)) (e .guarded .machine) (e .guarded .marks)
+
+  -- all the records in their order: the input, how its run ended
+  unfoldable pub reportOn : Input → GuardedEnd → List ℕ
+  reportOn i e =
+      headRecord (length (i .image)) (i .budget) (length (i .breaks))
+      ++ (startRecords hid (imageWords (i .image)) (i .marks)
+      ++ (byteRecords 3 (i .breaks) ++ endBytes e))
+
+  unfoldable pub reportBytes : Input → List ℕ
+  reportBytes i = reportOn i (guardedOf hid i)

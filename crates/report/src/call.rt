@@ -1,0 +1,47 @@
+// The call for a report.
+ghost use mathlib.Core.Path.{_≡_};
+ghost use Rattle.report.specs.Slots.{inputFrom};
+ghost use Rattle.report.specs.Outcome.{outcome, reportOutcome};
+use crate::Reported;
+use crate::whole::write_report;
+use vm::Begun;
+use vm::guarded_run;
+
+// Make a guarded run and write its report from byte 0 on; bytes past the report are kept. Refused 1 to 4
+// as the run is, 5 where the buffer is shorter than the longest report.
+pub fn report(
+    image: &[u16],
+    marks: &[u8],
+    budget: u64,
+    breakpoints: &[u8],
+    out: &mut [u8],
+) -> Reported
+    ensures { λ r. ⌜ outcome r (now (out .exit)) ≡ reportOutcome (inputFrom (now (image .entry)) (now (marks .entry)) budget (now (breakpoints .entry))) (now (out .entry)) ⌝ }
+{
+    let run = guarded_run(image, marks, Begun(budget), breakpoints);
+    let refused = run.refused;
+    if refused != 0 {
+        return Reported::Refused(refused);
+    }
+    if out.len() < 33930 {
+        return Reported::Refused(5);
+    }
+    let machine = run.machine;
+    let left = run.marks;
+    let stop = run.stop;
+    let register_marks = left.registers;
+    let memory_marks = left.memory;
+    let n = write_report(
+        out,
+        image,
+        marks,
+        budget,
+        breakpoints,
+        stop,
+        machine,
+        &register_marks,
+        &memory_marks,
+        left.mdr,
+    );
+    Reported::Written(n)
+}

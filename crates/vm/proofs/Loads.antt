@@ -1,0 +1,100 @@
+-- The guarded run of an image: what a served input has, and the machine that is switched on with it.
+-- Assumes nothing.
+use Prim.Native.Nat.{ℕ, zero, suc, _≤_, _-_}
+use native.Mathlib.Omega.{arith}
+use mathlib.Core.Path.{_≡_, refl, ap, sym, _∙_}
+use mathlib.Core.Bool.{Bool, true, false, cond, _&&_}
+use mathlib.Core.List.{List, _++_, append-nil}
+use borrow.Author.Tests.{ltb-false, eqb-true}
+use lib.Dec.{eqb, ltb}
+use lib.ListN.{length, getD, replicate, length-replicate}
+use lib.Seq.{take-all}
+use Rattle.tick.proofs.Lawfuls.{both}
+use Rattle.vm.specs.declared.machine.Machine.{Machine as Code}
+use Rattle.vm.specs.View.{Fit}
+use Rattle.vm.specs.Refusal.{Sizes}
+use Rattle.vm.specs.Calls.{partsOf, viewOf, isMachine, restOf, restarted, imageWords, imageSize}
+use Rattle.vm.specs.Marks.{marked}
+use Rattle.vm.specs.Guard.{Input, zeroOne, inputRefusal, guardedStart, guardedRun, guardedOf}
+use Rattle.vm.proofs.Starts.{size-few, new-ok}
+use Rattle.vm.proofs.Fits.{fit}
+
+-- ---- a new machine
+
+zeros : (n i : ℕ) → _≡_ {A = ℕ} (getD (replicate n 0) i 0) 0
+zeros zero i = refl
+zeros (suc n) zero = refl
+zeros (suc n) (suc i) = zeros n i
+
+long : (n : ℕ) → length (replicate {A = ℕ} n 0) ≡ n
+long n = length-replicate {A = ℕ} n 0
+
+pub new-fit : (image : List ℕ) (n h : ℕ) → n ≤ 256 → Fit (partsOf (restarted image n h))
+unfolding restarted
+new-fit image n h le =
+    let z : Sizes (partsOf (restarted image n h)) =
+    record {
+      touched = long 256;
+      bytes = λ i. omega (arith, zeros 256 i);
+      texts = long 16384;
+      numbers = long 512;
+      addresses = long 512;
+      phases = long 512;
+      lengths = long 512;
+    } in
+    fit (partsOf (restarted image n h)) n (new-ok image n h le) z
+
+-- ---- a served input
+
+size-is : (n : ℕ) → n ≤ 256 → imageSize n ≡ n
+size-is n le = go (ltb n 256) refl
+  where
+    go : (b : Bool) → ltb n 256 ≡ b → cond b n 256 ≡ n
+    go true e = refl
+    go false e = omega (arith, ltb-false n 256 e)
+
+-- 256 marks are all of them
+words-are : (l : List ℕ) → length l ≡ 256 → imageWords l ≡ l
+unfolding imageWords
+words-are l e =
+    let z : 256 - length l ≡ 0 = omega arith in
+    (λ k. take-all 256 l (omega arith) k ++ replicate (z k) 0) ∙ append-nil l
+
+pub served-input : (i : Input) → inputRefusal i ≡ 0 → (length (i .image) ≤ 256) × (length (i .marks) ≡ 256) × (i .budget ≤ 1000000)
+unfolding inputRefusal
+served-input i e = go (ltb 256 (length (i .image))) (eqb (length (i .marks)) 256 && zeroOne (i .marks)) (ltb 256 (length (i .breaks))) (ltb 1000000 (i .budget)) refl refl refl e
+  where
+    go : (a b c d : Bool) → ltb 256 (length (i .image)) ≡ a → eqb (length (i .marks)) 256 && zeroOne (i .marks) ≡ b → ltb 1000000 (i .budget) ≡ d → _≡_ {A = ℕ} (cond a 1 (cond b (cond c 3 (cond d 4 0)) 2)) 0
+        → (length (i .image) ≤ 256) × (length (i .marks) ≡ 256) × (i .budget ≤ 1000000)
+    go true b c d p q r z = absurd (omega (arith, z))
+    go false false c d p q r z = absurd (omega (arith, z))
+    go false true true d p q r z = absurd (omega (arith, z))
+    go false true false true p q r z = absurd (omega (arith, z))
+    go false true false false p q r z =
+        (omega (arith, ltb-false 256 (length (i .image)) p), eqb-true (length (i .marks)) 256 (both (eqb (length (i .marks)) 256) (zeroOne (i .marks)) q .0), ltb-false 1000000 (i .budget) r)
+
+-- ---- by what the code finds: the words, how many count, the machine, the marks
+
+module _ (i : Input) {new : Code} {words : List ℕ} {size : ℕ} (machine : new ≡ restarted words size 0) (loaded : words ≡ imageWords (i .image)) (counted : size ≡ imageSize (length (i .image))) where
+  few : size ≤ 256
+  few = omega (arith, counted, size-few (length (i .image)))
+
+  pub load-fit : Fit (partsOf new)
+  load-fit = rw machine (new-fit words size 0 few)
+
+  pub load-ok : isMachine new ≡ true
+  load-ok = ap isMachine machine ∙ new-ok words size 0 few
+
+  module _ {n : ℕ} (refusal : n ≡ inputRefusal i) (served : n ≡ 0) where
+    has : (length (i .image) ≤ 256) × (length (i .marks) ≡ 256) × (i .budget ≤ 1000000)
+    has = served-input i (sym refusal ∙ served)
+
+    pub load-rest : restOf new ≡ record { image = imageWords (i .image); length = length (i .image); history = 0 }
+    unfolding restarted
+    load-rest = ap restOf machine ∙ (λ k. record { image = loaded k; length = (counted ∙ size-is (length (i .image)) (has .0)) k; history = 0 })
+
+    pub load-run : {marks : List ℕ} → marks ≡ imageWords (i .marks) → guardedRun marked (i .breaks) 0 (i .budget) (record { machine = viewOf new; marks = record { memory = marks; registers = replicate 16 0; mdr = 0 } }) ≡ guardedOf marked i
+    unfolding guardedOf guardedStart
+    load-run e =
+        let m = machine ∙ (λ k. restarted (loaded k) ((counted ∙ size-is (length (i .image)) (has .0)) k) 0) in
+        λ k. guardedRun marked (i .breaks) 0 (i .budget) (record { machine = viewOf (m k); marks = record { memory = (e ∙ words-are (i .marks) (has .1)) k; registers = replicate 16 0; mdr = 0 } })

@@ -1,0 +1,109 @@
+//! `massey_report`: every input through the program, byte by byte.
+
+use crate::scripts::every;
+use crate::tally::Tally;
+use crate::{difference, pipes, program};
+use oracle::report_lists::{Family, FAMILIES};
+use oracle::report_program;
+use std::io::Write;
+
+pub const PROGRAM: &str = "massey_report";
+
+/// How the input comes in pieces, and of how many cases in each family.
+const PIECES: [usize; 5] = [1, 3, 7, 100, 511];
+const IN_PIECES: usize = 12;
+
+/// The records of a report: kind, name, and length with the kind's byte.
+const RECORDS: [(u8, &str, usize); 8] = [
+    (1, "the head", 13),
+    (2, "a starting word", 37),
+    (3, "a breakpoint", 2),
+    (4, "the trace", 43),
+    (5, "a register", 5),
+    (6, "a final word", 5),
+    (7, "a touched address", 2),
+    (8, "the end", 45),
+];
+
+pub fn compare(tally: &mut Tally, family: &Family) {
+    for number in (0..(family.count)()).step_by(every()) {
+        for (index, input) in (family.inputs)(number).iter().enumerate() {
+            let name = || format!("{} {number}, its input {index}", family.name);
+            compare_one(tally, input, None, name);
+        }
+    }
+}
+
+/// A few cases of each family, spread over it: the first input of each comes in
+/// pieces, so that the program's reads come back short.
+pub fn compare_pieces(tally: &mut Tally) {
+    for family in &FAMILIES {
+        let step = ((family.count)() / IN_PIECES).max(1);
+        for (index, number) in (0..(family.count)()).step_by(step).enumerate() {
+            let piece = PIECES[index % PIECES.len()];
+            let name = || format!("{} {number}, by {piece}", family.name);
+            let inputs = (family.inputs)(number);
+            compare_one(tally, &inputs[0], Some(piece), name);
+        }
+    }
+}
+
+/// One run of the program, its input at once or in pieces.
+fn compare_one(
+    tally: &mut Tally,
+    input: &[u8],
+    piece: Option<usize>,
+    name: impl FnOnce() -> String,
+) {
+    let wanted = report_program::answer(input);
+    let written = program::run(PROGRAM, |pipe| match piece {
+        Some(piece) => pipes::feed(pipe, input, piece),
+        None => pipe.write_all(input),
+    });
+    let same = written.as_ref().is_ok_and(|output| *output == wanted);
+    tally.check(same, || {
+        let what = written.map_or_else(|error| error, |output| describe(&output, &wanted));
+        format!("{PROGRAM}, {}: {what}", name())
+    });
+}
+
+/// Where the answer first differs, and in which record.
+fn describe(found: &[u8], wanted: &[u8]) -> String {
+    let same = found.iter().zip(wanted).take_while(|(a, b)| a == b).count();
+    let bytes = difference::describe(found, wanted, 0);
+    format!("{}: {bytes}", place(wanted, same))
+}
+
+/// What stands at a place of a right answer.
+fn place(answer: &[u8], at: usize) -> String {
+    let mut start = 0;
+    while let Some(kind) = answer.get(start) {
+        let Some((_, name, length)) = RECORDS.iter().find(|record| record.0 == *kind) else {
+            return "a refusal".to_string();
+        };
+        if at < start + length {
+            return format!("{name} (byte {start}), its byte {}", at - start);
+        }
+        start += length;
+    }
+    "past the end".to_string()
+}
+
+#[cfg(test)]
+mod tests {
+    use super::place;
+    use oracle::example_reports::example_14;
+    use oracle::report_bytes::report;
+    use oracle::report_program::refused;
+
+    #[test]
+    fn the_records_stand_where_the_report_has_them() {
+        let report = report(&example_14()).expect("it is served");
+        assert_eq!(place(&report, 0), "the head (byte 0), its byte 0");
+        assert_eq!(place(&report, 13), "a starting word (byte 13), its byte 0");
+        assert_eq!(place(&report, 9_485), "the trace (byte 9485), its byte 0");
+        assert_eq!(place(&report, 11_061), "the end (byte 11017), its byte 44");
+        assert_eq!(place(&report, 11_062), "past the end");
+        assert_eq!(place(&refused(6), 8), "a refusal");
+    }
+}

@@ -1,0 +1,72 @@
+//! The fixed sample of `massey_report`: some inputs of every kind with their
+//! answers, small enough to be kept. Its programs are invented, and the first
+//! says so in ASCII.
+
+use crate::example_reports::{self, input};
+use crate::guarded::Input;
+use crate::programs::HALT;
+use crate::report_program::{answer, bytes};
+use crate::{opcode_reports, random_reports, refused_reports, report_pairs};
+
+const SAYS: &[u8; 16] = b"INVENTED SAMPLE.";
+
+/// The program's own sample, for its folder. A hidden word of what it says is
+/// loaded, doubled and stored; then R1 is open again, and a jump leads to HALT.
+pub fn invented() -> Input {
+    let program = [0x310A, 0x6211, 0x4218, 0x1107, 0x4119, 0xD007, 0x5000, HALT];
+    let said = SAYS
+        .chunks(2)
+        .map(|pair| u16::from_be_bytes([pair[0], pair[1]]));
+    let image: Vec<u16> = program.into_iter().chain(said).collect();
+    Input {
+        breakpoints: vec![6, 0, 6],
+        ..input(&image, &[0x0A, 0x20], 20)
+    }
+}
+
+/// What the program reads, once for each record.
+pub fn inputs() -> Vec<Vec<u8>> {
+    let mut inputs = vec![bytes(&invented())];
+    inputs.extend(example_reports::all().iter().map(bytes));
+    inputs.extend(served().iter().map(bytes));
+    inputs.extend(refused());
+    inputs
+}
+
+/// Each stop, MDR's mark behind a load, hidden values and runs by chance.
+fn served() -> Vec<Input> {
+    let behind = opcode_reports::behind_a_load();
+    let mut served: Vec<Input> = [24, 26, 28, 50].map(|at| behind[at].clone()).to_vec();
+    served.extend((0..8).map(|program| report_pairs::value(program, 0x8001)));
+    served.extend((0..8).map(|number| random_reports::any(11 * number)));
+    served
+}
+
+/// Each refusal, alone and before the others, and inputs that are cut or longer
+/// than their counts say.
+fn refused() -> Vec<Vec<u8>> {
+    let mut refused: Vec<Vec<u8>> = [1, 2, 4, 8, 15, 14, 12]
+        .map(|choice| bytes(&refused_reports::offending(choice)))
+        .to_vec();
+    let whole = bytes(&invented());
+    let longer = [&whole[..], &[0]].concat();
+    refused.extend([0, 1, 2, whole.len() - 1].map(|cut| whole[..cut].to_vec()));
+    refused.extend([longer, vec![1, 1]]);
+    refused
+}
+
+/// The list for a replay: for each input its length in 2 bytes and the input,
+/// then the answer's length in 4 bytes and the answer, high byte first.
+pub fn list() -> Vec<u8> {
+    inputs().iter().flat_map(|input| record(input)).collect()
+}
+
+fn record(input: &[u8]) -> Vec<u8> {
+    let answer = answer(input);
+    let length = u16::try_from(input.len()).expect("an input of the sample is short");
+    let mut record = length.to_be_bytes().to_vec();
+    record.extend(input);
+    record.extend((answer.len() as u32).to_be_bytes());
+    record.extend(answer);
+    record
+}

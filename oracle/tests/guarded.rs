@@ -1,0 +1,662 @@
+//! The model of the guarded run, of its report and of the report program, held
+//! to sentences of document 01 by answers that are written out here.
+
+use oracle::example_reports::{self as examples, input, marks_at, with_word_10};
+use oracle::guarded::{self, Input, Run, Stop};
+use oracle::report_bytes::{self, LONGEST};
+use oracle::report_lists::{Relation, FAMILIES};
+use oracle::report_program::{answer, bytes, refused, DECIDING};
+use oracle::report_sample;
+use oracle::{random_reports, refused_reports, report_pairs};
+
+const HALT: u16 = 0xE000;
+
+fn run(input: &Input) -> Run {
+    guarded::run(input).expect("it is served")
+}
+
+fn report(input: &Input) -> Vec<u8> {
+    report_bytes::report(input).expect("it is served")
+}
+
+/// The bytes of a record of each kind, its kind among them.
+fn record_length(kind: u8) -> usize {
+    match kind {
+        1 => 13,
+        2 => 37,
+        3 | 7 => 2,
+        4 => 43,
+        5 | 6 => 5,
+        8 => 45,
+        _ => panic!("no record has the kind {kind}"),
+    }
+}
+
+/// The records of a report.
+fn records(report: &[u8]) -> Vec<&[u8]> {
+    let mut rest = report;
+    let mut records = Vec::new();
+    while let Some(kind) = rest.first() {
+        let (record, behind) = rest.split_at(record_length(*kind));
+        records.push(record);
+        rest = behind;
+    }
+    records
+}
+
+/// The records of one kind.
+fn of_kind(report: &[u8], kind: u8) -> Vec<&[u8]> {
+    let mut records = records(report);
+    records.retain(|record| record[0] == kind);
+    records
+}
+
+fn text(text: &str) -> Vec<u8> {
+    let mut bytes = text.as_bytes().to_vec();
+    bytes.resize(32, 0);
+    bytes
+}
+
+/// The end's counts: instructions, micro operations, bus reads, bus writes.
+fn counts(report: &[u8]) -> [u64; 4] {
+    let end = of_kind(report, 8)[0];
+    std::array::from_fn(|index| {
+        let at = 9 + 8 * index;
+        u64::from_be_bytes(end[at..at + 8].try_into().unwrap())
+    })
+}
+
+/// The stop, PC, IR, MAR, and MDR behind its mark.
+fn end(report: &[u8]) -> [u8; 8] {
+    of_kind(report, 8)[0][1..9].try_into().unwrap()
+}
+
+/// The fault's kind, word and address.
+fn fault(report: &[u8]) -> [u8; 4] {
+    of_kind(report, 8)[0][41..].try_into().unwrap()
+}
+
+// -- the examples of section 9 ----------------------------------------------
+
+#[test]
+fn example_10() {
+    let report = report(&examples::example_10());
+    assert_eq!(end(&report), [0, 1, 0xE0, 0, 0, 0, 0xE0, 0]);
+    assert_eq!(counts(&report), [1, 4, 1, 0]);
+    assert_eq!(fault(&report), [0; 4]);
+    assert_eq!(of_kind(&report, 3), [[3, 0]]);
+}
+
+#[test]
+fn example_11() {
+    let report = report(&examples::example_11());
+    assert_eq!(of_kind(&report, 1)[0][..3], [1, 0, 17]);
+    assert_eq!(of_kind(&report, 5)[1], [5, 1, 0, 0, 5]);
+    let words = of_kind(&report, 6);
+    assert_eq!(words[0x10], [6, 0x10, 1, 0, 0]);
+    assert_eq!(words[0x11], [6, 0x11, 1, 0, 0]);
+    assert_eq!(words[0x12], [6, 0x12, 0, 0, 5]);
+    assert_eq!(counts(&report), [5, 30, 6, 2]);
+    assert_eq!(end(&report), [0, 5, 0xE0, 0, 4, 0, 0xE0, 0]);
+    assert_eq!(of_kind(&report, 7), [[7, 0x11], [7, 0x12]]);
+}
+
+#[test]
+fn example_12() {
+    let report = report(&examples::example_12());
+    // MAR and MDR are as the LOAD left them, and MDR is hidden.
+    assert_eq!(end(&report), [5, 1, 0x31, 0x10, 0x10, 1, 0, 0]);
+    assert_eq!(counts(&report), [1, 7, 2, 0]);
+    assert_eq!(fault(&report), [0; 4]);
+    let run = run(&examples::example_12());
+    assert!(!run.machine.halted && run.executed == 1);
+}
+
+#[test]
+fn example_13() {
+    let report = report(&examples::example_13());
+    assert_eq!(end(&report), [2, 6, 0, 0, 5, 0, 0, 0]);
+    assert_eq!(counts(&report), [2, 16, 4, 0]);
+    assert_eq!(fault(&report), [1, 0, 0, 5]);
+    let jump = of_kind(&report, 4)[11];
+    assert_eq!(jump[9..11], [1, 2]);
+    assert_eq!(jump[11..], text("if R0 = R0: 05 -> PC"));
+}
+
+#[test]
+fn example_14() {
+    let report = report(&examples::example_14());
+    assert_eq!(report.len(), 11_062);
+    let mut due = vec![8, 2, 1, 0, 0, 0, 0, 0, 0];
+    for count in [0u64, 4, 1, 0] {
+        due.extend(count.to_be_bytes());
+    }
+    due.extend([1, 0, 0, 0]);
+    assert!(report.ends_with(&due));
+}
+
+#[test]
+fn example_15() {
+    let [accepted, over] = examples::example_15();
+    assert_eq!((accepted.budget, over.budget), (1_000_000, 1_000_001));
+    let head = [1, 0, 1, 0, 0, 0, 0, 0, 0x0F, 0x42, 0x40, 0, 0];
+    assert!(report(&accepted).starts_with(&head));
+    assert_eq!(report_bytes::report(&over), Err(4));
+    assert_eq!(answer(&bytes(&over)), b"refused 4\n");
+}
+
+// -- the report's bytes -----------------------------------------------------
+
+/// A whole report but for words that are zero, written out.
+#[test]
+fn a_small_report() {
+    let input = Input {
+        breakpoints: vec![9, 9, 4],
+        ..input(&[0x1203, 0x4201, HALT], &[2], 7)
+    };
+    let report = report(&input);
+    let found = records(&report);
+    let mut due: Vec<Vec<u8>> = vec![vec![1, 0, 3, 0, 0, 0, 0, 0, 0, 0, 7, 0, 3]];
+    let start = |address: u8, mark: u8, word: [u8; 2], shown: &str| {
+        [&[2, address, mark][..], &word, &text(shown)].concat()
+    };
+    due.push(start(0, 0, [0x12, 0x03], "LOAD R2, 03"));
+    due.push(start(1, 0, [0x42, 0x01], "STORE R2, [01]"));
+    due.push(start(2, 1, [0, 0], ""));
+    for address in 3..=255 {
+        let unknown = "??? (not a MASSEY opcode) ; 0000";
+        due.push(start(address, 0, [0, 0], unknown));
+    }
+    due.extend([vec![3, 9], vec![3, 9], vec![3, 4]]);
+    let ticks = [
+        (0, 0, "PC -> MAR"),
+        (0, 0, "M[MAR] -> MDR"),
+        (0, 0, "MDR -> IR"),
+        (0, 0, "PC + 1 -> PC"),
+        (0, 2, "03 -> R2"),
+        (1, 0, "PC -> MAR"),
+        (1, 0, "M[MAR] -> MDR"),
+        (1, 0, "MDR -> IR"),
+        (1, 0, "PC + 1 -> PC"),
+        (1, 2, "01 -> MAR"),
+        (1, 2, "R2 -> MDR"),
+        (1, 2, "MDR -> M[MAR]"),
+    ];
+    for (index, (address, phase, shown)) in ticks.into_iter().enumerate() {
+        let number = [0, 0, 0, 0, 0, 0, 0, index as u8 + 1];
+        due.push([&[4][..], &number, &[address, phase], &text(shown)].concat());
+    }
+    for index in 0..16 {
+        due.push(vec![5, index, 0, 0, if index == 2 { 3 } else { 0 }]);
+    }
+    due.push(vec![6, 0, 0, 0x12, 0x03]);
+    due.push(vec![6, 1, 0, 0, 3]);
+    due.push(vec![6, 2, 1, 0, 0]);
+    due.extend((3..=255).map(|address| vec![6, address, 0, 0, 0]));
+    due.push(vec![7, 1]);
+    // Stop 4 before address 02: MAR is 01, MDR is what was stored.
+    let mut end = vec![8, 4, 2, 0x42, 0x01, 1, 0, 0, 3];
+    for count in [2u64, 12, 2, 1] {
+        end.extend(count.to_be_bytes());
+    }
+    end.extend([0, 0, 0, 0]);
+    due.push(end);
+    assert_eq!(found, due);
+}
+
+#[test]
+fn the_longest_report() {
+    let input = examples::longest_report();
+    let report = report(&input);
+    assert_eq!((LONGEST, report.len()), (33_930, 33_930));
+    let kinds = [1, 2, 3, 4, 5, 6, 7, 8].map(|kind| of_kind(&report, kind).len());
+    assert_eq!(kinds, [1, 256, 256, 512, 16, 256, 256, 1]);
+    // 256 stores of seven ticks; the breakpoint is at the address behind FF.
+    assert_eq!(counts(&report), [256, 1_792, 256, 256]);
+    assert_eq!(end(&report)[..2], [1, 0]);
+    // The oldest of 512 went first.
+    assert_eq!(of_kind(&report, 4)[0][1..9], 1_281u64.to_be_bytes());
+    let hidden = examples::longest_hidden_report();
+    let report = self::report(&hidden);
+    assert_eq!(end(&report)[..2], [4, 0xFF]);
+    assert_eq!(of_kind(&report, 7).len(), 254);
+    let marked = of_kind(&report, 6)
+        .iter()
+        .filter(|word| word[2] == 1)
+        .count();
+    assert_eq!(marked, 255, "all but the last instruction");
+}
+
+#[test]
+fn texts_of_32_bytes() {
+    let input = input(&[0x1101, 0xD120, 0x5ABC], &[], 9);
+    let report = report(&input);
+    assert_eq!(
+        of_kind(&report, 2)[2][5..],
+        *b"??? (not a MASSEY opcode) ; 5ABC"
+    );
+    assert_eq!(
+        of_kind(&report, 4)[9][11..],
+        *b"if R1 = R0: 20 -> PC (not taken)"
+    );
+    assert_eq!(fault(&report), [1, 0x5A, 0xBC, 2]);
+}
+
+/// A hidden word shows nowhere, and neither does what was made of it.
+#[test]
+fn a_marked_value_is_written_0000() {
+    let report = report(&report_pairs::value(0, 0x5EC7));
+    assert_eq!(
+        of_kind(&report, 2)[0x10][1..],
+        [&[0x10, 1][..], &[0; 34]].concat()
+    );
+    for (kind, count) in [(5, 5), (6, 3)] {
+        let records = of_kind(&report, kind);
+        let marked: Vec<_> = records.iter().filter(|record| record[2] == 1).collect();
+        assert_eq!(marked.len(), count, "kind {kind}");
+        assert!(marked.iter().all(|record| record[3..] == [0, 0]));
+    }
+}
+
+/// What is written is noted, though the value is the same.
+#[test]
+fn touched_goes_by_writing() {
+    let input = input(&[0x4120, 0x3100, 0x4100, 0x4120, HALT], &[], 9);
+    assert_eq!(of_kind(&report(&input), 7), [[7, 0x20], [7, 0]]);
+}
+
+#[test]
+fn a_spent_budget_is_a_fault() {
+    let spent = |budget| report(&input(&[0x1101, 0x1102, HALT], &[], budget));
+    assert_eq!(end(&spent(0)), [3, 0, 0, 0, 0, 0, 0, 0]);
+    assert_eq!(fault(&spent(0)), [2, 0, 0, 0]);
+    assert_eq!(end(&spent(2)), [3, 2, 0x11, 0x02, 1, 0, 0x11, 0x02]);
+    assert_eq!(fault(&spent(2)), [2, 0x11, 0x02, 2]);
+    // HALT as the last instruction of a budget is no spent budget.
+    assert_eq!(end(&spent(3))[0], 0);
+    assert_eq!(fault(&spent(3)), [0; 4]);
+}
+
+// -- marks and stops --------------------------------------------------------
+
+#[test]
+fn the_order_of_the_stops() {
+    let stop = |image: &[u16], marked: &[u8], budget, breakpoints: &[u8]| {
+        let input = Input {
+            breakpoints: breakpoints.to_vec(),
+            ..input(image, marked, budget)
+        };
+        run(&input).stop
+    };
+    let hidden = with_word_10(&[0x3110, 0xD105], 7);
+    // A word that is marked and a jump whose test is: the word comes first.
+    assert_eq!(stop(&hidden, &[0x10, 1], 9, &[]), Stop::MarkedWord);
+    assert_eq!(stop(&hidden, &[0x10], 9, &[]), Stop::MarkedTest);
+    assert_eq!(stop(&hidden, &[0x10, 1], 1, &[]), Stop::Budget);
+    assert_eq!(stop(&hidden, &[0x10], 1, &[]), Stop::Budget);
+    assert_eq!(stop(&hidden, &[0x10, 1], 1, &[1]), Stop::Breakpoint);
+    assert_eq!(stop(&hidden, &[0x10], 1, &[1]), Stop::Breakpoint);
+    // Before the first instruction there is no breakpoint.
+    assert_eq!(stop(&hidden, &[0], 9, &[0]), Stop::MarkedWord);
+    assert_eq!(stop(&hidden, &[0], 0, &[0]), Stop::Budget);
+    // A halted machine has ended, whatever stands behind HALT.
+    assert_eq!(stop(&[HALT], &[1], 1, &[1]), Stop::Halted);
+    assert_eq!(stop(&[0x5000], &[1], 1, &[1]), Stop::Fault);
+    // Only a jump's test tells, and a jump on R0 does not.
+    let no_test = with_word_10(&[0x3110, 0xD003, HALT, 0x6111, HALT], 7);
+    assert_eq!(stop(&no_test, &[0x10], 9, &[]), Stop::Halted);
+    let zero = with_word_10(&[0x3010, 0xD203], 7);
+    assert_eq!(stop(&zero, &[0x10], 9, &[]), Stop::MarkedTest);
+}
+
+/// The marks of R1, R2 and MDR, and of word 11, behind LOAD R1, [10] with a
+/// marked word 10, and these instructions.
+fn marks_behind(code: &[u16]) -> [bool; 4] {
+    let image = with_word_10(&[&[0x3110], code].concat(), 0x5EC7);
+    let run = run(&input(&image, &[0x10], 1 + code.len() as u64));
+    assert_eq!(run.stop, Stop::Budget);
+    let marks = run.marks;
+    [
+        marks.registers[1],
+        marks.registers[2],
+        marks.mdr,
+        marks.memory[0x11],
+    ]
+}
+
+#[test]
+fn how_instructions_move_marks() {
+    let (open, hidden) = (false, true);
+    assert_eq!(marks_behind(&[]), [hidden, open, hidden, open]);
+    assert_eq!(marks_behind(&[0x1100]), [open, open, open, open]);
+    assert_eq!(marks_behind(&[0x2021]), [hidden, hidden, open, open]);
+    assert_eq!(marks_behind(&[0x2012]), [open, open, open, open]);
+    assert_eq!(marks_behind(&[0x3210]), [hidden, hidden, hidden, open]);
+    assert_eq!(marks_behind(&[0x3111]), [open, open, open, open]);
+    assert_eq!(marks_behind(&[0x4111]), [hidden, open, hidden, hidden]);
+    assert_eq!(marks_behind(&[0x4111, 0x4211]), [hidden, open, open, open]);
+    assert_eq!(
+        marks_behind(&[0x4111, 0x6000]),
+        [hidden, open, open, hidden]
+    );
+    for opcode in [0x6000, 0xA000, 0xB000, 0xC000] {
+        assert_eq!(
+            marks_behind(&[opcode | 0x213]),
+            [hidden, hidden, open, open]
+        );
+        assert_eq!(
+            marks_behind(&[opcode | 0x231]),
+            [hidden, hidden, open, open]
+        );
+        assert_eq!(
+            marks_behind(&[opcode | 0x211]),
+            [hidden, hidden, open, open]
+        );
+        assert_eq!(marks_behind(&[opcode | 0x233]), [hidden, open, open, open]);
+        assert_eq!(marks_behind(&[opcode | 0x133]), [open, open, open, open]);
+    }
+    for keeps in [0x7010, 0x8103, 0x8110, 0x9103, 0x91FF, 0x7210] {
+        assert_eq!(marks_behind(&[keeps]), [hidden, open, open, open]);
+    }
+    // In NEGATE and in LOAD y, z it is y that counts, and x that does not.
+    assert_eq!(marks_behind(&[0x7120]), [hidden, open, open, open]);
+    assert_eq!(marks_behind(&[0x2134]), [hidden, open, open, open]);
+}
+
+/// Each fetch opens MDR, so its mark shows only where a run ends right behind
+/// LOAD [yz] or STORE.
+#[test]
+fn the_mark_of_mdr() {
+    let image = with_word_10(&[0x3110, 0x1200, 0x4111, 0x4212, 0x3311, HALT], 0x5EC7);
+    let shown = |budget| {
+        let report = report(&input(&image, &[0x10], budget));
+        end(&report)[5..].to_vec()
+    };
+    let due = [
+        [0, 0, 0],
+        [1, 0, 0],
+        [0, 0x12, 0x00],
+        [1, 0, 0],
+        [0, 0, 0],
+        [1, 0, 0],
+        [0, 0xE0, 0x00],
+        [0, 0xE0, 0x00],
+    ];
+    for (budget, due) in due.into_iter().enumerate() {
+        assert_eq!(shown(budget as u64), due, "budget {budget}");
+    }
+    // With the word open, its value is there.
+    let open = report(&input(&image, &[], 1));
+    assert_eq!(end(&open)[5..], [0, 0x5E, 0xC7]);
+}
+
+/// A word that was opened is carried out; one that was hidden stops the run.
+#[test]
+fn code_that_is_written_over() {
+    let code = [0x3110, 0x4103, 0x1200, 0x1300, HALT];
+    let image = with_word_10(&code, HALT);
+    let opened = run(&input(&image, &[3], 9));
+    assert_eq!((opened.stop, opened.executed), (Stop::Halted, 4));
+    let hidden = run(&input(&image, &[0x10], 9));
+    assert_eq!((hidden.stop, hidden.executed), (Stop::MarkedWord, 3));
+}
+
+// -- refusals ---------------------------------------------------------------
+
+#[test]
+fn refusals_of_the_run() {
+    let good = || input(&[HALT], &[], 1);
+    let refusal = |input: &Input| guarded::run(input).err();
+    let image = |words| Input {
+        image: vec![HALT; words],
+        ..good()
+    };
+    let marks = |marks| Input { marks, ..good() };
+    let breakpoints = |count| Input {
+        breakpoints: vec![0; count],
+        ..good()
+    };
+    assert_eq!(
+        [256, 257].map(|words| refusal(&image(words))),
+        [None, Some(1)]
+    );
+    assert_eq!(
+        [255, 256, 257].map(|count| refusal(&marks(vec![1; count]))),
+        [Some(2), None, Some(2)]
+    );
+    assert_eq!(
+        refusal(&marks([marks_at(&[])[1..].to_vec(), vec![2]].concat())),
+        Some(2)
+    );
+    assert_eq!(
+        [256, 257].map(|count| refusal(&breakpoints(count))),
+        [None, Some(3)]
+    );
+    let mut all = Input {
+        image: vec![0; 257],
+        marks: Vec::new(),
+        budget: 1_000_001,
+        breakpoints: vec![0; 257],
+    };
+    assert_eq!(refusal(&all), Some(1));
+    all.image.pop();
+    assert_eq!(refusal(&all), Some(2));
+    all.marks = marks_at(&[]);
+    assert_eq!(refusal(&all), Some(3));
+    all.breakpoints.pop();
+    assert_eq!(refusal(&all), Some(4));
+    all.budget -= 1;
+    assert_eq!(refusal(&all), None);
+}
+
+/// The program's input by its parts; each as it is handed in.
+fn whole(length: u16, words: usize, marks: &[u8], budget: u64, count: u16, more: usize) -> Vec<u8> {
+    let mut bytes = length.to_be_bytes().to_vec();
+    bytes.extend(vec![0xE0; 2 * words]);
+    bytes.extend(marks);
+    bytes.extend(budget.to_be_bytes());
+    bytes.extend(count.to_be_bytes());
+    bytes.extend(vec![0; more]);
+    bytes
+}
+
+#[test]
+fn refusals_of_the_program() {
+    let good = marks_at(&[]);
+    let bad = [&good[1..], &[2]].concat();
+    let (most, over) = (1_000_000, 1_000_001);
+    let is = |number: u8, bytes: &[u8]| assert_eq!(answer(bytes), refused(number));
+    assert_eq!(refused(6), b"refused 6\n");
+    // Nothing, or half a number.
+    is(6, &[]);
+    is(6, &[1]);
+    is(6, &[0xFF]);
+    is(6, &[0, 0]);
+    is(6, &[1, 0]);
+    // A number that is wholly there is tested, though what it counts is not.
+    is(1, &[1, 1]);
+    is(1, &[0xFF, 0xFF, 0]);
+    is(3, &whole(1, 1, &good, most, 257, 0));
+    is(3, &whole(1, 1, &good, most, 0xFFFF, 9));
+    is(6, &whole(1, 1, &good, most, 256, 0));
+    is(6, &whole(1, 1, &good, most, 256, 255));
+    // Marks are tested only where all are there.
+    let cut = 2 + 2 + 256;
+    is(
+        6,
+        &whole(1, 1, &[&[2], &good[1..]].concat(), most, 0, 0)[..cut - 1],
+    );
+    is(2, &whole(1, 1, &bad, most, 0, 0)[..cut]);
+    is(2, &whole(1, 1, &bad, over, 257, 0));
+    // The budget too, whatever is missing behind it.
+    is(6, &whole(1, 1, &good, over, 0, 0)[..cut + 7]);
+    is(4, &whole(1, 1, &good, over, 0, 0)[..cut + 8]);
+    is(4, &whole(1, 1, &good, over, 257, 0)[..cut + 9]);
+    is(3, &whole(1, 1, &good, over, 257, 0));
+    is(4, &whole(1, 1, &good, over, 9, 0));
+    is(4, &whole(1, 1, &good, over, 0, 1));
+    // Longer than the counts say.
+    is(6, &whole(1, 1, &good, most, 0, 1));
+    // A word too many moves the parts: its bytes are no marks.
+    is(2, &whole(1, 2, &good, 0, 0, 0));
+    is(6, &whole(2, 1, &good, 0, 0, 0));
+    is(6, &whole(256, 256, &good, most, 256, 257));
+    assert_eq!(answer(&whole(1, 1, &good, most, 0, 0)).len(), 11_062);
+}
+
+/// A whole input is refused by the program as by the run itself.
+#[test]
+fn the_program_refuses_as_the_run_does() {
+    for number in 0..200 {
+        let input = random_reports::any(number);
+        assert_eq!(answer(&bytes(&input)), report(&input));
+    }
+    let over = Input {
+        breakpoints: vec![0; 300],
+        ..input(&[HALT; 300], &[], 2_000_000)
+    };
+    assert_eq!(
+        answer(&bytes(&over)),
+        refused(guarded::refusal(&over).unwrap())
+    );
+}
+
+#[test]
+fn so_many_bytes_decide() {
+    assert_eq!(DECIDING, 1_037);
+    // One less does not: the longest input that is served, and one byte more.
+    let served = whole(256, 256, &marks_at(&[]), 0, 256, 256);
+    let longer = [&served[..], &[0]].concat();
+    assert_eq!(served.len(), 1_036);
+    assert_ne!(answer(&served), answer(&longer));
+    let inputs = [refused_reports::lengths(), refused_reports::companies()].concat();
+    let damaged = (0..400).map(refused_reports::damaged);
+    for input in inputs.into_iter().chain(damaged) {
+        let cut = &input[..input.len().min(DECIDING)];
+        assert_eq!(answer(&input), answer(cut));
+    }
+}
+
+// -- the lists --------------------------------------------------------------
+
+/// Holds the model itself to what each family says of its reports.
+#[test]
+fn pairs() {
+    for family in FAMILIES
+        .iter()
+        .filter(|family| family.relation != Relation::Free)
+    {
+        for number in 0..(family.count)() {
+            let answers: Vec<Vec<u8>> = (family.inputs)(number)
+                .iter()
+                .map(|input| answer(input))
+                .collect();
+            let (first, others) = answers.split_first().unwrap();
+            let is_report = |answer: &Vec<u8>| !answer.starts_with(b"refused");
+            assert!(answers.iter().all(is_report), "{} {number}", family.name);
+            let same = |other: &Vec<u8>| other == first;
+            let holds = match family.relation {
+                Relation::Same => others.iter().all(same),
+                _ => !others.iter().any(same),
+            };
+            assert!(holds, "{} {number}", family.name);
+        }
+    }
+}
+
+/// Some of every family, the long runs among them; at each the model holds its
+/// machine to the original's.
+#[test]
+fn the_families_are_answered() {
+    for family in &FAMILIES {
+        let count = (family.count)();
+        for number in (0..count).step_by(1 + count / 40) {
+            for input in (family.inputs)(number) {
+                let answer = answer(&input);
+                assert!(answer.len() == 10 || (10_890..=LONGEST).contains(&answer.len()));
+            }
+        }
+    }
+}
+
+/// Pairs are such that they differ where they say, and nowhere else.
+#[test]
+fn pairs_differ_in_one_thing() {
+    for number in 0..report_pairs::OPEN_CASES {
+        let pair = report_pairs::open(number);
+        let (a, b) = (&pair[0], &pair[1]);
+        let differ = [
+            a.image.len() != b.image.len(),
+            a.budget != b.budget,
+            a.breakpoints != b.breakpoints,
+            a.marks != b.marks,
+            a.image.len() == b.image.len() && a.image != b.image,
+        ];
+        let due = [0, 1, 2, 2, 3, 4][number % 6];
+        assert_eq!(
+            differ,
+            std::array::from_fn(|thing| thing == due),
+            "{number}"
+        );
+    }
+    for number in 0..report_pairs::HIDDEN_CASES {
+        let case = report_pairs::hidden(number);
+        for other in &case[1..] {
+            assert_ne!(*other, case[0]);
+            let zipped = case[0].image.iter().zip(&other.image).enumerate();
+            let mut differing = zipped.filter(|(_, (a, b))| a != b);
+            assert!(differing.all(|(address, _)| other.marks[address] == 1));
+            let same_words = Input {
+                image: case[0].image.clone(),
+                ..other.clone()
+            };
+            assert_eq!(same_words, case[0]);
+        }
+    }
+}
+
+/// Every value of one hidden word, in programs that stop at a jump, with the
+/// word in MDR, and at a copy of it; the family `values` has one that halts.
+#[test]
+fn all_values_of_a_hidden_word() {
+    for program in [1, 5, 7] {
+        let first = report(&report_pairs::value(program, 0));
+        for word in 1..=u16::MAX {
+            let other = report(&report_pairs::value(program, word));
+            assert!(other == first, "program {program}, word {word:04X}");
+        }
+    }
+}
+
+/// The list of the sample is read back as it was made.
+#[test]
+fn the_sample() {
+    let list = report_sample::list();
+    let mut rest = &list[..];
+    let mut lengths = Vec::new();
+    let mut refusals = Vec::new();
+    for input in report_sample::inputs() {
+        let (length, behind) = rest.split_at(2);
+        assert_eq!(length, (input.len() as u16).to_be_bytes());
+        let (read, behind) = behind.split_at(input.len());
+        assert_eq!(read, input);
+        let (length, behind) = behind.split_at(4);
+        let length = u32::from_be_bytes(length.try_into().unwrap()) as usize;
+        assert_eq!(behind[..length], answer(&input));
+        lengths.push(length);
+        refusals.extend(
+            behind[..length]
+                .strip_prefix(b"refused ")
+                .map(|line| line[0]),
+        );
+        rest = &behind[length..];
+    }
+    assert!(rest.is_empty());
+    assert!(lengths.len() >= 40 && lengths.contains(&LONGEST));
+    for number in b"12346" {
+        assert!(refusals.contains(number));
+    }
+    assert!(bytes(&report_sample::invented())
+        .windows(16)
+        .any(|said| said == b"INVENTED SAMPLE."));
+}
