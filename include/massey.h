@@ -24,6 +24,18 @@ int64_t massey_disassemble(uint16_t word, uint8_t *out, size_t out_len);
 int64_t massey_listing(const uint8_t *image, size_t image_len, uint8_t *out,
                        size_t out_len);
 
+/* Makes a guarded run and writes its report to the start of out, keeps the bytes
+ * past it, and answers its length, at most 33,930. The input is that of the
+ * program massey_report, numbers high byte first: image length 2 bytes, the
+ * words 2 each, 256 marks 1 each, budget 8, breakpoint count 2, the breakpoints
+ * 1 each. Refused is -1 an image length over 256, else -2 a mark that is not 0
+ * or 1, else -3 a breakpoint count over 256, else -4 a budget over 1,000,000,
+ * all of these where the number, or all the marks, are there; else -5 where out
+ * has under 33,930 bytes, else -6 where the input is shorter or longer than its
+ * counts say. */
+int64_t massey_report(const uint8_t *input, size_t input_len, uint8_t *out,
+                      size_t out_len);
+
 /* The next six load the image's whole words, of which the first 256 count, on
  * a new machine, and cannot be refused. They are for timing: each puts one of
  * the machine's calls to work and answers a number that shows what was done. */

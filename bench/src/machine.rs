@@ -8,9 +8,9 @@ use oracle::vm::Machine;
 use std::hint::black_box;
 
 /// Rounds of a run, of which the original takes a second for each program.
-const RUN_ROUNDS: usize = 12;
+pub const RUN_ROUNDS: usize = 12;
 const ROUNDS: usize = 60;
-const BUDGET: u64 = 1_000_000;
+pub const BUDGET: u64 = 1_000_000;
 const CALLS: u64 = 1_000;
 /// Enough instructions that the trace is full when its texts are checked.
 const WARM: u64 = 200;
@@ -58,7 +58,7 @@ fn runs_on(words: &[u16]) -> bool {
     machine.is_running()
 }
 
-fn run(words: &[u16], budget: u64) -> u64 {
+pub fn run(words: &[u16], budget: u64) -> u64 {
     let mut machine = loaded(words);
     black_box(machine.run(budget, &[]));
     machine.micro_operations

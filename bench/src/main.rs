@@ -4,6 +4,7 @@
 
 mod history;
 mod machine;
+mod report;
 
 use oracle::random::Random;
 use oracle::{disasm, images};
@@ -41,6 +42,17 @@ fn main() {
     for call in &machine::CALLS_TIMED {
         row(call.name, call.limit, machine::timed(call, &programs));
     }
+    report::agree(&programs);
+    row(
+        "the report call, budget 1,000,000, to a `run`",
+        "0.25",
+        report::whole(&programs),
+    );
+    row(
+        "the report of an empty image, to 256 words",
+        "0.3",
+        report::empty(&sets[0]),
+    );
     let mut store = history::store();
     history::agree(&programs[0], &mut store);
     row(

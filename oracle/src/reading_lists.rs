@@ -4,6 +4,7 @@ use crate::programs::{self, HALT, JUMP};
 use crate::random::Random;
 use crate::readings::{self, Question};
 use crate::record::Record;
+use crate::report_sample;
 
 /// How many machines by chance the full list has.
 const MACHINES: usize = 20_000;
@@ -32,7 +33,9 @@ pub fn fixed() -> Vec<Record> {
     questions.extend(every_tick());
     questions.extend(halted());
     questions.extend(ends_of_memory(&mut random));
-    questions.iter().map(readings::record).collect()
+    let mut records: Vec<Record> = questions.iter().map(readings::record).collect();
+    records.extend(report_sample::records());
+    records
 }
 
 /// The fixed list, and many more.
@@ -46,14 +49,16 @@ pub fn full() -> Vec<Record> {
 
 /// A running machine, one in mid-instruction, and a halted one.
 pub fn samples() -> Vec<Record> {
-    [
+    let mut records: Vec<Record> = [
         question(&[0x1105, HALT], 0, 0),
         question(&[0x1105, HALT], 3, 1),
         question(&[0x1105, HALT], 20, 2),
     ]
     .iter()
     .map(readings::record)
-    .collect()
+    .collect();
+    records.extend(report_sample::short());
+    records
 }
 
 /// Images of lengths of interest; the address is the last word's, or the first

@@ -43,7 +43,7 @@ pub const REPLAYS: [Replay; 3] = [
         fixed: reading_lists::fixed,
         full: reading_lists::full,
         samples: reading_lists::samples,
-        counted: b"R",
+        counted: b"RG",
         malformed: reading_lists::malformed,
     },
 ];

@@ -5,6 +5,7 @@
 use crate::example_reports::{self, input};
 use crate::guarded::Input;
 use crate::programs::HALT;
+use crate::record::Record;
 use crate::report_program::{answer, bytes};
 use crate::{opcode_reports, random_reports, refused_reports, report_pairs};
 
@@ -55,18 +56,25 @@ fn refused() -> Vec<Vec<u8>> {
     refused
 }
 
-/// The list for a replay: for each input its length in 2 bytes and the input,
-/// then the answer's length in 4 bytes and the answer, high byte first.
-pub fn list() -> Vec<u8> {
-    inputs().iter().flat_map(|input| record(input)).collect()
+/// The kind of a record with a report.
+pub const KIND: u8 = b'G';
+
+/// The list for a replay: the question is an input behind its length in 2 bytes.
+pub fn records() -> Vec<Record> {
+    inputs().iter().map(|input| record(input)).collect()
 }
 
-fn record(input: &[u8]) -> Vec<u8> {
-    let answer = answer(input);
+/// Short ones, of which each has another answer.
+pub fn short() -> Vec<Record> {
+    refused()
+        .iter()
+        .take(3)
+        .map(|input| record(input))
+        .collect()
+}
+
+fn record(input: &[u8]) -> Record {
     let length = u16::try_from(input.len()).expect("an input of the sample is short");
-    let mut record = length.to_be_bytes().to_vec();
-    record.extend(input);
-    record.extend((answer.len() as u32).to_be_bytes());
-    record.extend(answer);
-    record
+    let question = [&length.to_be_bytes(), input].concat();
+    Record::new(KIND, question, answer(input))
 }

@@ -1,4 +1,2 @@
--- `Texts` has the laws of `specs/Disassembly.antt`; `Lines` and `Listings` those of `specs/Listing.antt`.
+-- `Texts` has the laws of `specs/Disassembly.antt`.
 pub mod Texts
-pub mod Lines
-pub mod Listings

@@ -1,4 +1,3 @@
 pub mod Disassembly
 pub mod Operands
-pub mod Listing
 pub mod Examples

@@ -1,13 +1,9 @@
-// Disassembly: machine code as assembler source.
+// Disassembly: a word as assembler source, and the operands that it names.
 mod disassembly;
-mod listing;
 mod operands;
 
 pub use disassembly::disassemble;
 pub use disassembly::disassemble_into;
-pub use listing::Listed;
-pub use listing::disassemble_image;
-pub use listing::list_bytes;
 pub use operands::RegisterList;
 pub use operands::active_register;
 pub use operands::memory_operand;

@@ -1,8 +1,8 @@
 -- Bytes in a lent list: what is written over it, numbers high byte first, and what is read back. Assumes nothing.
 use Prim.Native.Nat.{ℕ, zero, suc, _+_, _*_, _/_, _%_}
-use mathlib.Core.Bool.{Bool, cond}
+use mathlib.Core.Bool.{Bool, true, false, cond}
 use mathlib.Core.List.{List, [], _∷_, _++_}
-use lib.Dec.{leb}
+use lib.Dec.{eqb, leb}
 use lib.ListN.{length, take, drop, getD}
 
 -- `d` with `bs` written over it from index `at`
@@ -49,3 +49,8 @@ readNumber d at w = cond (leb w 8) (cond (within d at w) (number w (drop at d)) 
 -- as many words from index `at` on as `out` holds where they all lie in `d`, else `out` as it was
 unfoldable pub readWords : List ℕ → ℕ → List ℕ → List ℕ
 readWords d at out = cond (within d at (2 * length out)) (numbers 2 (length out) (drop at d)) out
+
+-- whether `a` stands in the list
+unfoldable pub member : ℕ → List ℕ → Bool
+member a [] = false
+member a (b ∷ l) = cond (eqb b a) true (member a l)

@@ -4,7 +4,7 @@ ghost use mathlib.Core.Path.{_≡_};
 ghost use Prim.Native.Nat.{_+_, _*_, _^_, _≤_, _<_};
 ghost use lib.Dec.{leb};
 ghost use lib.ListN.{length, drop};
-ghost use Rattle.encoding.specs.Bytes.{over, bigEndian, bigEndians, number, numbers, written, readNumber, readWords};
+ghost use Rattle.encoding.specs.Bytes.{over, bigEndian, bigEndians, number, numbers, written, readNumber, readWords, member};
 
 // Whether `n` bytes at index `at` lie wholly in `len` bytes. It subtracts, since `at + n` may be too large for
 // a usize.
@@ -133,4 +133,18 @@ fn get_each(bytes: &[u8], at: usize, out: &mut [u16])
         out[i] = high * 256 + low;
         i += 1;
     }
+}
+
+// Whether `b` stands among the bytes.
+pub fn contains(s: &[u8], b: u8) -> bool
+    ensures { λ r. ⌜ r ≡ member b (now (s .entry)) ⌝ }
+{
+    let mut i = 0;
+    while i < s.len() {
+        if s[i] == b {
+            return true;
+        }
+        i += 1;
+    }
+    false
 }

@@ -1,4 +1,5 @@
 pub mod Record
 pub mod Store
 pub mod Differences
+pub mod Restore
 pub mod Rust

@@ -15,14 +15,16 @@ use Rattle.encoding.specs.Bytes.{over, written}
 use Rattle.encoding.proofs.Written.{written-fits}
 use Rattle.disasm.specs.Disassembly.{disassembleText}
 use Rattle.disasm.proofs.Texts.{disassembly-short, disassembly-padded}
+use Rattle.report.specs.Public.{reportLimit}
 use Rattle.massey.specs.Calls.{outcome, lengthOf, refused, disassembleOutcome}
 
 -- ---- lengths and refusals as signed numbers
 
-pub small : {n : ℕ} → n ≤ 11709 → SFits w64 (pos n)
+-- no call answers a longer length than that of the longest report
+pub small : {n : ℕ} → n ≤ reportLimit → SFits w64 (pos n)
 small h = record { sfits = omega arith }
 
-pub length-read : {n : ℕ} → n ≤ 11709 → toZ w64 n ≡ lengthOf n
+pub length-read : {n : ℕ} → n ≤ reportLimit → toZ w64 n ≡ lengthOf n
 length-read {n} h = toZ-pos w64 n (omega arith)
 
 pub minus : {n : ℕ} → n ≤ 255 → pos 0 -ℤ toZ w64 n ≡ refused n

@@ -9,9 +9,12 @@ use lib.ListN.{length}
 use Rattle.isa.specs.Text.{padded}
 use Rattle.encoding.specs.Bytes.{over}
 use Rattle.disasm.specs.Disassembly.{disassembleText}
-use Rattle.disasm.specs.Listing.{bytesOutcome}
-use Rattle.disasm.specs.declared.listing.Listed.{Listed}
-use Rattle.disasm.specs.declared.listing.Listed.the-variants.{Written, Refused}
+use Rattle.listing.specs.Listing.{bytesOutcome}
+use Rattle.listing.specs.declared.Listed.{Listed}
+use Rattle.listing.specs.declared.Listed.the-variants.{Written, Refused}
+use Rattle.report.specs.declared.Reported.{Reported}
+use Rattle.report.specs.declared.Reported.the-variants.{Written as ReportWritten, Refused as ReportRefused}
+use Rattle.report.specs.Program as program
 
 -- what a call answers, and the buffer that it leaves
 pub record Outcome : Type 0 where
@@ -40,3 +43,11 @@ listedNumber (Refused n) = refused n
 
 unfoldable pub listingOutcome : List ℕ → List ℕ → Outcome
 listingOutcome image out = outcome (listedNumber (bytesOutcome image out .answer)) (bytesOutcome image out .buffer)
+
+-- the same of a report (01, section 6), for the report program's input
+abbrev pub reportedNumber : Reported → ℤ
+reportedNumber (ReportWritten n) = lengthOf n
+reportedNumber (ReportRefused n) = refused n
+
+unfoldable pub reportedOutcome : List ℕ → List ℕ → Outcome
+reportedOutcome input out = outcome (reportedNumber (program.bytesOutcome input out .answer)) (program.bytesOutcome input out .buffer)

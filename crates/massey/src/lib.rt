@@ -4,10 +4,12 @@ mod machine;
 mod undo;
 
 ghost use mathlib.Core.Path.{_≡_};
-ghost use Rattle.massey.specs.Calls.{outcome, disassembleOutcome, listingOutcome};
-use disasm::Listed;
+ghost use Rattle.massey.specs.Calls.{outcome, disassembleOutcome, listingOutcome, reportedOutcome};
 use disasm::disassemble_into;
-use disasm::list_bytes;
+use listing::Listed;
+use listing::list_bytes;
+use report::Reported;
+use report::report_bytes;
 
 // The text of a word, in a field of 32 bytes.
 #[no_mangle]
@@ -29,5 +31,18 @@ pub extern "C" fn massey_listing(image: &[u8], out: &mut [u8]) -> i64
     match listed {
         Listed::Written(n) => n as i64,
         Listed::Refused(n) => 0 - n as i64,
+    }
+}
+
+// The report of a guarded run, whose input is the report program's: its parts in bytes, numbers high
+// byte first.
+#[no_mangle]
+pub extern "C" fn massey_report(input: &[u8], out: &mut [u8]) -> i64
+    ensures { λ r. ⌜ outcome r (now (out .exit)) ≡ reportedOutcome (now (input .entry)) (now (out .entry)) ⌝ }
+{
+    let reported = report_bytes(input, out);
+    match reported {
+        Reported::Written(n) => n as i64,
+        Reported::Refused(n) => 0 - n as i64,
     }
 }

@@ -12,12 +12,12 @@ use encoding::get_number;
 use encoding::get_words;
 use encoding::put_bytes;
 use encoding::put_number;
+use guard::RunStop;
 use isa::Text;
 use vm::Begun;
 use vm::InstructionReport;
 use vm::Machine;
 use vm::MicroOp;
-use vm::RunStop;
 use vm::Served;
 
 // A call that answers nothing more than its refusal.

@@ -1,11 +1,11 @@
 // The parts of a machine's state as answers and dumps have them.
 ghost use Prim.Native.Nat.{_<_};
+use plan::Phase;
 use tick::AluOperation;
 use tick::AluRecord;
 use tick::BusTransfer;
 use tick::Control;
 use tick::Fault;
-use tick::Phase;
 use tick::RegisterWrite;
 use tick::WordOption;
 

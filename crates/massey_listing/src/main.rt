@@ -1,9 +1,11 @@
 // The listing program: words high byte first on standard input, their listing, or `refused N` and a
 // line feed, on standard output.
-use disasm::Listed;
-use disasm::list_bytes;
+use answer::first;
+use answer::put_refusal;
 use libc::STDIN_FILENO;
 use libc::STDOUT_FILENO;
+use listing::Listed;
+use listing::list_bytes;
 
 // The bytes that decide every answer: one word more than an image may have. What is longer is
 // refused alike, so the rest need not be read.
@@ -18,19 +20,14 @@ fn main() {
     let mut out = [0u8; LISTING];
     let listed = list_bytes(&input[..n], &mut out);
     match listed {
-        Listed::Written(size) => write_listing(&out, size),
-        Listed::Refused(number) => write_refusal(number),
+        Listed::Written(size) => write_first(&out, size),
+        Listed::Refused(number) => {
+            let size = put_refusal(&mut out, number);
+            write_first(&out, size);
+        }
     }
 }
 
-fn write_listing(out: &[u8], size: usize) {
-    if size <= out.len() {
-        io::write_all(STDOUT_FILENO, &out[..size]);
-    }
-}
-
-fn write_refusal(number: u8) {
-    io::write_all(STDOUT_FILENO, b"refused ");
-    io::print_decimal(STDOUT_FILENO, number as u64);
-    io::write_all(STDOUT_FILENO, b"\n");
+fn write_first(out: &[u8], size: usize) {
+    io::write_all(STDOUT_FILENO, first(out, size));
 }

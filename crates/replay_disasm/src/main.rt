@@ -1,7 +1,7 @@
 // Replays a list of records from standard input. Each has a question and the answer that the
 // original in Rust gave, and passes where the port gives the same. What is written is one line: how
 // many passed and how many failed.
-mod listing;
+mod listings;
 mod opcode;
 mod record;
 mod text;
@@ -33,7 +33,7 @@ fn passes(record: &[u8]) -> bool {
         b'B' => text::byte_passes(record),
         b'H' => text::hex_passes(record),
         b'P' => text::name_passes(record),
-        b'L' => listing::passes(record),
+        b'L' => listings::passes(record),
         _ => false,
     }
 }

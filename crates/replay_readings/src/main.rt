@@ -1,9 +1,11 @@
-// Replays the readings of a machine from standard input. Each record has an image, a number of ticks,
-// and what every call that only reads a machine answers after them in the original in Rust; it passes
-// where the port answers the same. What is written is one line: how many passed and how many failed.
+// Replays the readings of a machine, and reports, from standard input. A record has an image, a number
+// of ticks, and what every call that only reads a machine answers after them in the original in Rust;
+// or the report program's input, and the answer of the tests' own model. It passes where the port
+// answers the same. What is written is one line: how many passed and how many failed.
 // Reading and counting stand here as they do in replay_tick: a library's functions say by an equation
 // what they do, and none can say what is read.
 mod readings;
+mod reports;
 
 use libc::STDIN_FILENO;
 use libc::STDOUT_FILENO;
@@ -16,7 +18,7 @@ enum Verdict {
     End,
 }
 
-// Whether a record is one that the original would write. Where the kind is missing or unknown, it is
+// Whether a record is one that the original or the model would write. Where the kind is missing or unknown, it is
 // not.
 fn passes(record: &[u8]) -> bool {
     if record.len() == 0 {
@@ -25,6 +27,7 @@ fn passes(record: &[u8]) -> bool {
     let kind = record[0];
     match kind {
         b'R' => readings::passes(record),
+        b'G' => reports::passes(record),
         _ => false,
     }
 }

@@ -3,7 +3,7 @@
 // many passed and how many failed. Reading and counting stand here as they do in replay_disasm: a
 // library's functions say by an equation what they do, and none can say what is read.
 mod micro;
-mod plan;
+mod plans;
 mod state;
 
 use libc::STDIN_FILENO;
@@ -25,9 +25,9 @@ fn passes(record: &[u8]) -> bool {
     }
     let kind = record[0];
     match kind {
-        b'T' => plan::word_passes(record),
-        b'F' => plan::phase_passes(record),
-        b'U' => plan::operation_passes(record),
+        b'T' => plans::word_passes(record),
+        b'F' => plans::phase_passes(record),
+        b'U' => plans::operation_passes(record),
         b'M' => micro::passes(record),
         _ => false,
     }

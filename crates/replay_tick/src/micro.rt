@@ -11,6 +11,8 @@ use crate::state::write_number;
 use check::same;
 use encoding::put_bytes;
 use encoding::put_number;
+use plan::phase_of;
+use plan::tick_text;
 use replay::byte_at;
 use replay::put_text;
 use replay::word_at;
@@ -21,9 +23,7 @@ use tick::State;
 use tick::Tick;
 use tick::count_tick;
 use tick::is_lawful;
-use tick::phase_of;
 use tick::tick_of;
-use tick::tick_text;
 
 // The control unit that the question has. It runs: a halted machine has no tick.
 fn control_of(record: &[u8]) -> Control {

@@ -2,12 +2,12 @@
 // question that is then due has another number, and so the record fails.
 use encoding::put_bytes;
 use encoding::put_number;
+use plan::Phase;
 use tick::AluOperation;
 use tick::AluRecord;
 use tick::BusTransfer;
 use tick::Control;
 use tick::Fault;
-use tick::Phase;
 use tick::RegisterWrite;
 use tick::State;
 use tick::WordOption;

@@ -11,8 +11,8 @@ use lib.ListN.{length, getD, take, replicate, length-append, length-take, length
 use lib.Seq.{getD-take}
 use Rattle.tick.proofs.Lawfuls.{both}
 use Rattle.vm.specs.Calls.{imageWords}
-use Rattle.vm.specs.Marks.{marked}
-use Rattle.vm.specs.Guard.{Input, zeroOne, inputRefusal}
+use Rattle.guard.specs.Marks.{marked}
+use Rattle.guard.specs.Input.{Input, zeroOne, inputRefusal}
 use Rattle.report.proofs.Levels.{Joins}
 use Rattle.report.specs.Public.{reportLimit, reportRefusal}
 
@@ -23,11 +23,11 @@ pub record Accepted (i : Input) : Type 0 where
   pub allowed : i .budget ≤ 1000000
 
 -- a test that is passed, with a refusal on either side
-passed : (b : Bool) (n x : ℕ) → cond b (suc n) x ≡ 0 → (b ≡ false) × (x ≡ 0)
+pub passed : (b : Bool) (n x : ℕ) → cond b (suc n) x ≡ 0 → (b ≡ false) × (x ≡ 0)
 passed true n x e = absurd (omega arith)
 passed false n x e = (refl, e)
 
-met : (b : Bool) (x n : ℕ) → cond b x (suc n) ≡ 0 → (b ≡ true) × (x ≡ 0)
+pub met : (b : Bool) (x n : ℕ) → cond b x (suc n) ≡ 0 → (b ≡ true) × (x ≡ 0)
 met true x n e = (refl, e)
 met false x n e = absurd (omega arith)
 

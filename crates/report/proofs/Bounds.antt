@@ -16,25 +16,27 @@ use Rattle.isa.specs.declared.text.Text.{Text}
 use Rattle.isa.specs.Text.{text, textOf, padded}
 use Rattle.isa.specs.Word.{decodeWord, byteYZ}
 use Rattle.isa.proofs.Texts.{textOf-text}
+use Rattle.plan.specs.Plan.{executeTicks, tickText}
 use Rattle.tick.specs.declared.control.State.{State}
 use Rattle.tick.specs.declared.control.Control.{Control}
 use Rattle.tick.specs.declared.control.Operands.{Operands}
 use Rattle.tick.specs.declared.control.Tick.{Tick}
 use Rattle.tick.specs.declared.control.BusTransfer.{BusTransfer}
 use Rattle.tick.specs.declared.control.BusTransfer.the-variants.{Idle, Read, Write}
-use Rattle.tick.specs.Plan.{executeTicks, tickText}
 use Rattle.tick.specs.Tick.{decodeTick, decodeTo, nextPc, haltingTick, plain, withControl, toTick, executeTick, loadTick, storeTick, endedTick, laterTick, onward, tickOf}
-use Rattle.vm.specs.declared.trace.TraceRecord.{TraceRecord}
-use Rattle.vm.specs.declared.guard.GuardedStop.{GuardedStop}
-use Rattle.vm.specs.declared.guard.GuardedStop.the-variants.{Halted, Breakpoint, Fault as Faulted, Budget, HiddenWord, HiddenJump}
-use Rattle.vm.specs.Trace.{pushed, liveTrace}
-use Rattle.vm.specs.Touched.{member, noted, touchedBy, distinct}
+use Rattle.trace.specs.declared.records.TraceRecord.{TraceRecord}
+use Rattle.guard.specs.declared.stops.GuardedStop.{GuardedStop}
+use Rattle.guard.specs.declared.stops.GuardedStop.the-variants.{Halted, Breakpoint, Fault as Faulted, Budget, HiddenWord, HiddenJump}
+use Rattle.trace.specs.Trace.{pushed, liveTrace}
+use Rattle.trace.specs.Touched.{noted, touchedBy, distinct}
+use Rattle.encoding.specs.Bytes.{member}
 use Rattle.vm.specs.Machine.{Machine, operandsOf, nextText, nextTick, microStep}
 use Rattle.vm.specs.Instruction.{Steps, started, ticked, unlessZero, steps, stepInstruction}
-use Rattle.vm.specs.Run.{Verdict, go, stop, after}
+use Rattle.guard.specs.Stops.{Verdict, go, stop, after}
 use Rattle.vm.specs.Calls.{restarted}
-use Rattle.vm.specs.Guard.{Input, Guarded, guardedStep, guardClosed, guardedEnd, guard, guardedRun, guardedStart, guardedOf}
-use Rattle.vm.proofs.Lists.{few, below-of, distinct-snoc}
+use Rattle.vm.specs.Guard.{Guarded, guardedStep, guardClosed, guardedEnd, guard, guardedRun, guardedStart, guardedOf}
+use Rattle.guard.specs.Input.{Input}
+use Rattle.trace.proofs.Lists.{few, below-of, distinct-snoc}
 use Rattle.vm.proofs.Ticks.{short-text}
 use Rattle.report.specs.Report.{noRecord}
 use Rattle.report.proofs.Accepts.{append-below}

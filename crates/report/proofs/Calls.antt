@@ -12,12 +12,13 @@ use Rattle.isa.specs.Text.{padded, textOf}
 use Rattle.tick.specs.Lawful.{lawful}
 use Rattle.tick.proofs.Lawfuls.{both}
 use Rattle.vm.specs.declared.machine.Machine.{Machine as Code}
-use Rattle.vm.specs.Trace.{liveLengths, shortTexts}
+use Rattle.trace.specs.Trace.{liveLengths, shortTexts}
 use Rattle.vm.specs.Refusal.{partsOk}
 use Rattle.vm.specs.Calls.{viewOf, isMachine}
 use Rattle.vm.specs.Machine.{Machine}
-use Rattle.vm.specs.Marks.{marked}
-use Rattle.vm.specs.Guard.{Input, GuardedEnd, inputRefusal, guardedOf}
+use Rattle.guard.specs.Marks.{marked}
+use Rattle.vm.specs.Guard.{GuardedEnd, guardedOf}
+use Rattle.guard.specs.Input.{Input, inputRefusal}
 use Rattle.report.specs.declared.Reported.the-variants.{Refused}
 use Rattle.report.specs.Report.{noRecord, endBytes, reportOn, reportBytes}
 use Rattle.report.specs.Slots.{Reportable}
@@ -46,16 +47,16 @@ module _ (m : Code) (ok : isMachine m ≡ true) where
 
 -- ---- the answer
 
+pub refused-number : (n : ℕ) (out : List ℕ) (o : Outcome) → (n ≡ 0 → ⊥) → outcome (Refused n) out ≡ unlessRefused n out o
+refused-number zero out o h = absurd (h refl)
+refused-number (suc n) out o h = refl
+
 module _ (i : Input) (out : List ℕ) where
   pub call-refused : {n : ℕ} → n ≡ inputRefusal i → (n ≡ 0 → ⊥) → outcome (Refused n) out ≡ reportOutcome i out
   unfolding reportOutcome reportRefusal
   call-refused {n} e h =
       let k : inputRefusal i ≡ 0 → ⊥ = λ z. h (e ∙ z) in
-      rw (ne-eqb (inputRefusal i) 0 k, ← e) (at n h)
-    where
-      at : (n : ℕ) → (n ≡ 0 → ⊥) → outcome (Refused n) out ≡ unlessRefused n out (served (reportBytes marked i) out)
-      at zero h = absurd (h refl)
-      at (suc n) h = refl
+      rw (ne-eqb (inputRefusal i) 0 k, ← e) (refused-number n out _ h)
 
   pub call-short : inputRefusal i ≡ 0 → length out < reportLimit → outcome (Refused 5) out ≡ reportOutcome i out
   unfolding reportOutcome reportRefusal
@@ -66,7 +67,7 @@ module _ (i : Input) (out : List ℕ) where
   unfolding reportRefusal
   room e h = rw (eq-eqb (inputRefusal i) 0 e, le-ltb (length out) reportLimit h)
 
-  answered : reportRefusal i (length out) ≡ 0 → served (reportBytes marked i) out ≡ reportOutcome i out
+  pub answered : reportRefusal i (length out) ≡ 0 → served (reportBytes marked i) out ≡ reportOutcome i out
   unfolding reportOutcome
   answered e = rw e
 

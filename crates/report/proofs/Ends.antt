@@ -7,8 +7,9 @@ use mathlib.Core.Bool.{Bool}
 use mathlib.Core.List.{List, _∷_, _++_}
 use lib.ListN.{length, getD, replicate}
 use Rattle.vm.specs.Calls.{restarted, imageWords}
-use Rattle.vm.specs.Marks.{Marks}
-use Rattle.vm.specs.Guard.{GuardedEnd, stopNumber, guardedStart}
+use Rattle.guard.specs.Marks.{Marks}
+use Rattle.vm.specs.Guard.{GuardedEnd, guardedStart}
+use Rattle.guard.specs.Stops.{stopNumber}
 use Rattle.report.proofs.Levels.{Twin, Twins, Public, publicOf, Level, LevelEnd}
 use Rattle.report.specs.Report.{traceRecords, byteRecords, controlBytes, countBytes, faultBytes, shown, valueRecord, startRecord, startRecords, valueRecords, endRecord, endRecords, endBytes}
 use Rattle.report.proofs.Twins.{twin-refl, twins-get, twins-of}

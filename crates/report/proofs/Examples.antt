@@ -8,12 +8,13 @@ use Rattle.encoding.specs.Bytes.{bigEndian}
 use Rattle.isa.specs.Opcode.{digits, decodeNibble}
 use Rattle.tick.specs.Tick.{tickOf, decodeTick}
 use Rattle.tick.specs.Count.{countTick}
-use Rattle.vm.specs.Trace.{pushed, liveTrace}
+use Rattle.trace.specs.Trace.{pushed, liveTrace}
 use Rattle.vm.specs.Machine.{microStep}
 use Rattle.vm.specs.Instruction.{ticked, steps, stepInstruction}
 use Rattle.vm.specs.Calls.{restarted, imageWords}
-use Rattle.vm.specs.Marks.{marked}
-use Rattle.vm.specs.Guard.{Input, zeroOne, inputRefusal, guardedStart, guardedRun, guardedOf}
+use Rattle.guard.specs.Marks.{marked}
+use Rattle.vm.specs.Guard.{guardedStart, guardedRun, guardedOf}
+use Rattle.guard.specs.Input.{Input, zeroOne, inputRefusal}
 use Rattle.report.specs.Report.{endRecord, controlBytes, countBytes, faultBytes, shown, reportBytes}
 use Rattle.report.specs.Public.{reportLimit, reportRefusal}
 use Rattle.report.proofs.Lengths.{length-report}

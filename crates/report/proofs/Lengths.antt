@@ -14,11 +14,13 @@ use Rattle.isa.specs.Text.{padded, textOf}
 use Rattle.isa.proofs.Texts.{length-padded}
 use Rattle.tick.specs.declared.control.State.{State}
 use Rattle.tick.specs.declared.counters.Counters.{Counters}
-use Rattle.vm.specs.declared.trace.TraceRecord.{TraceRecord}
+use Rattle.trace.specs.declared.records.TraceRecord.{TraceRecord}
 use Rattle.vm.specs.Calls.{imageWords}
 use Rattle.vm.specs.Machine.{Machine}
-use Rattle.vm.specs.Marks.{Marks}
-use Rattle.vm.specs.Guard.{Input, stopNumber, guardedOf}
+use Rattle.guard.specs.Marks.{Marks}
+use Rattle.vm.specs.Guard.{guardedOf}
+use Rattle.guard.specs.Input.{Input}
+use Rattle.guard.specs.Stops.{stopNumber}
 use Rattle.report.specs.Report.{startRecord, startRecords, byteRecord, byteRecords, traceBytes, traceRecord, noRecord, traceRecords, valueRecord, valueRecords, faultBytes, countBytes, controlBytes, endRecord, endRecords, endBytes, reportOn, reportBytes}
 use Rattle.report.specs.Slots.{slotBytes}
 use Rattle.report.specs.Public.{reportLimit, reportRefusal}

@@ -6,9 +6,9 @@ use mathlib.Core.Bool.{Bool, false}
 use mathlib.Core.List.{List, [], _∷_}
 use Rattle.tick.specs.declared.control.Fault.{Fault}
 use Rattle.tick.specs.declared.counters.Counters.{Counters}
-use Rattle.vm.specs.declared.trace.TraceRecord.{TraceRecord}
+use Rattle.trace.specs.declared.records.TraceRecord.{TraceRecord}
 use Rattle.vm.specs.Machine.{Machine}
-use Rattle.vm.specs.Marks.{joined}
+use Rattle.guard.specs.Marks.{joined}
 use Rattle.vm.specs.Guard.{Guarded, GuardedEnd}
 
 -- two values under one mark, which are the same unless the mark hides them

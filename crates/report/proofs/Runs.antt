@@ -8,10 +8,11 @@ use lib.Dec.{eqb}
 use lib.ListN.{getD}
 use Rattle.tick.specs.declared.control.Fault.{Fault}
 use Rattle.tick.specs.declared.control.Fault.the-variants.{StepBudgetExhausted}
-use Rattle.vm.specs.declared.guard.GuardedStop.{GuardedStop}
-use Rattle.vm.specs.declared.guard.GuardedStop.the-variants.{Halted, Breakpoint, Fault as Faulted, Budget, HiddenWord, HiddenJump}
-use Rattle.vm.specs.Run.{Verdict, go, stop, after, reached}
-use Rattle.vm.specs.Guard.{Guarded, nextWord, guardedStep, guardIf, guardedEnd, hiddenJump, guard, guardedRun}
+use Rattle.guard.specs.declared.stops.GuardedStop.{GuardedStop}
+use Rattle.guard.specs.declared.stops.GuardedStop.the-variants.{Halted, Breakpoint, Fault as Faulted, Budget, HiddenWord, HiddenJump}
+use Rattle.guard.specs.Stops.{Verdict, go, stop, after, reached}
+use Rattle.vm.specs.Guard.{Guarded, nextWord, guardedStep, guardedEnd, guard, guardedRun}
+use Rattle.guard.specs.Stops.{guardIf, hiddenJump}
 use Rattle.report.proofs.Levels.{Public, publicOf, Level, LevelEnd, Joins}
 use Rattle.report.proofs.Twins.{twins-get}
 use Rattle.report.proofs.Steps.{hiddenOf, whole}

@@ -13,15 +13,15 @@ use Rattle.isa.specs.declared.opcode.Decoded.the-variants.{Known, Unknown}
 use Rattle.isa.specs.Text.{ascii, text}
 use Rattle.isa.specs.Word.{decodeWord}
 use Rattle.isa.specs.Format.{fill}
+use Rattle.plan.specs.Plan.{fetchText, executeText, tickTemplate, tickText}
 use Rattle.tick.specs.declared.control.BusTransfer.{BusTransfer}
 use Rattle.tick.specs.declared.control.BusTransfer.the-variants.{Idle, Read}
 use Rattle.tick.specs.declared.control.AluRecord.{AluRecord}
 use Rattle.tick.specs.declared.control.AluRecord.the-variants.{Unused}
-use Rattle.tick.specs.Plan.{fetchText, executeText, tickTemplate, tickText}
 use Rattle.tick.specs.Tick.{decodeAs, decodeTick, executeTick, onward, tickOf}
 use Rattle.tick.specs.Count.{countTick}
-use Rattle.vm.specs.declared.trace.TraceRecord.{TraceRecord}
-use Rattle.vm.specs.Trace.{pushed}
+use Rattle.trace.specs.declared.records.TraceRecord.{TraceRecord}
+use Rattle.trace.specs.Trace.{pushed}
 use Rattle.vm.specs.Machine.{Machine, operandsOf, nextText, afterTick, microStep}
 use Rattle.vm.specs.Instruction.{Steps, ticked, unlessZero, steps, stepInstruction}
 use Rattle.report.proofs.Levels.{Public, publicOf}

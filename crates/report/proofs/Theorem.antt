@@ -2,22 +2,26 @@
 -- Assumes nothing.
 use mathlib.Core.Path.{_≡_, refl, sym, ap, _∙_}
 use mathlib.Core.Logic.{_↔_}
-use mathlib.Core.List.{List, [], _∷_}
+use mathlib.Core.List.{List, [], _∷_, _++_}
 use Prim.Native.Nat.{ℕ, _<_}
 use lib.ListN.{length, getD, replicate}
 use lib.Seq.{ext-getD}
+use Rattle.encoding.specs.Bytes.{bigEndian, number, readNumber}
 use Rattle.vm.specs.Calls.{imageWords}
-use Rattle.vm.specs.Marks.{marked}
-use Rattle.vm.specs.Guard.{Input, zeroOne, inputRefusal, guardedStart, guardedRun, guardedOf}
+use Rattle.guard.specs.Marks.{marked}
+use Rattle.vm.specs.Guard.{guardedStart, guardedRun, guardedOf}
+use Rattle.guard.specs.Input.{Input, zeroOne, inputRefusal}
 use Rattle.report.proofs.Levels.{Twin, Level}
 use Rattle.report.proofs.Runs.{run-same}
 use Rattle.report.specs.Report.{shown, endBytes, reportOn, reportBytes}
 use Rattle.report.specs.Public.{reportLimit, reportRefusal, SamePublic}
 use Rattle.report.specs.Outcome.{reportOutcome, reportIn}
+use Rattle.report.specs.Program.{inputOf, firstRefusal, bytesRefusal}
 use Rattle.report.proofs.Accepts.{Accepted, accepted, length-words, words-below, marked-joins}
 use Rattle.report.proofs.Shows.{shown-seen}
 use Rattle.report.proofs.Fronts.{head-cut, starts-cut, breaks-cut}
 use Rattle.report.proofs.Calls.{report-left}
+use Rattle.report.proofs.Programs.{bytes-accepted, image-below}
 use Rattle.report.proofs.Ends.{ends-same, starts-same, start-level, start-tick}
 
 -- there are accepted inputs: HALT, and any word behind it, which is marked
@@ -77,3 +81,23 @@ pub demand-three-calls : (i j : Input) (b d : List ℕ) → reportRefusal i (len
 demand-three-calls i j b d p q v w =
     let t = demand-three i j (length b) (length d) p q v w in
     (λ e. t .0 (sym (report-left i b p) ∙ e ∙ report-left j d q), λ s. report-left i b p ∙ t .1 s ∙ sym (report-left j d q))
+
+-- ---- the report program's inputs
+
+-- the input is an array of bytes, as the call's type says
+abbrev pub AllBytes : List ℕ → Type 0
+AllBytes b = (i : ℕ) → getD b i 0 < 256
+
+-- the same of two of them that are not refused
+pub demand-three-bytes : (b d : List ℕ) (m n : ℕ) → bytesRefusal b m ≡ 0 → bytesRefusal d n ≡ 0 → AllBytes b → AllBytes d
+    → (reportBytes marked (inputOf b) ≡ reportBytes marked (inputOf d)) ↔ SamePublic (inputOf b) (inputOf d)
+demand-three-bytes b d m n p q v w =
+    demand-three (inputOf b) (inputOf d) m n (bytes-accepted b m p) (bytes-accepted d n q) (image-below b v) (image-below d w)
+
+-- some are not: the bytes of `withSecret`, whose hidden word has the bytes h and l
+abbrev pub secretBytes : ℕ → ℕ → List ℕ
+secretBytes h l = 0 ∷ 2 ∷ 224 ∷ 0 ∷ h ∷ l ∷ 0 ∷ 1 ∷ (replicate 254 0 ++ (bigEndian 8 1 ++ (0 ∷ 0 ∷ [])))
+
+pub secret-bytes-accepted : (h l : ℕ) → bytesRefusal (secretBytes h l) reportLimit ≡ 0
+unfolding bytesRefusal firstRefusal readNumber number bigEndian zeroOne
+secret-bytes-accepted h l = refl

@@ -10,11 +10,11 @@ use Rattle.encoding.specs.Bytes.{over, eachFrom}
 use Rattle.encoding.proofs.Written.{length-each, length-joined, overs-eq}
 use Rattle.isa.specs.Text.{padded, textOf}
 use Rattle.vm.specs.declared.machine.Machine.{Machine as Code}
-use Rattle.vm.specs.declared.trace.TraceRecord.{TraceRecord}
+use Rattle.trace.specs.declared.records.TraceRecord.{TraceRecord}
 use Rattle.vm.specs.Calls.{viewOf}
-use Rattle.vm.specs.Marks.{marked}
-use Rattle.vm.specs.Trace.{slots, turn, recordAt, liveTrace}
-use Rattle.vm.proofs.Rings.{length-slots}
+use Rattle.guard.specs.Marks.{marked}
+use Rattle.trace.specs.Trace.{slots, turn, recordAt, liveTrace}
+use Rattle.trace.proofs.Rings.{length-slots}
 use Rattle.vm.proofs.Newest.{getD-slots, getD-turn, trace-length}
 use Rattle.report.specs.Report.{traceBytes, traceRecord, noRecord, traceRecords, valueRecords, byteRecords, endRecord, endRecords}
 use Rattle.report.specs.Slots.{slotBytes, slotRecords, Reportable}

@@ -12,13 +12,14 @@ use Rattle.isa.specs.declared.opcode.Opcode.the-variants.{LoadImmediate, LoadRe
 use Rattle.isa.specs.declared.opcode.Decoded.{Decoded}
 use Rattle.isa.specs.declared.opcode.Decoded.the-variants.{Known, Unknown}
 use Rattle.isa.specs.Word.{decodeWord, digitX, digitY, digitZ, byteYZ}
-use Rattle.tick.specs.Plan.{executeText}
+use Rattle.plan.specs.Plan.{executeText}
 use Rattle.tick.specs.Tick.{executeTick, sum16, negate16, right16, left16}
 use Rattle.tick.specs.Count.{countTick}
 use Rattle.vm.specs.Machine.{Machine}
 use Rattle.vm.specs.Instruction.{stepInstruction}
-use Rattle.vm.specs.Marks.{Marks, mdrMarked, executedMarks, instructionMarks}
-use Rattle.vm.specs.Guard.{Guarded, nextWord, guardedStep, isJump, hiddenJump}
+use Rattle.guard.specs.Marks.{Marks, mdrMarked, executedMarks, instructionMarks}
+use Rattle.vm.specs.Guard.{Guarded, nextWord, guardedStep}
+use Rattle.guard.specs.Stops.{isJump, hiddenJump}
 use Rattle.report.proofs.Levels.{Twin, Twins, Public, publicOf, Level, Joins}
 use Rattle.report.proofs.Twins.{twin-refl, twin-map, twins-get, twins-set, twin-join}
 use Rattle.report.proofs.Steps.{Hidden, hiddenOf, whole, fetched, fetchedHidden, decoded, finished, instruction-ticks}

@@ -8,10 +8,12 @@ use lib.ListN.{length, length-append}
 use Rattle.encoding.specs.Bytes.{over}
 use Rattle.encoding.proofs.Written.{over-over, length-joined}
 use Rattle.vm.specs.declared.machine.Machine.{Machine as Code}
-use Rattle.vm.specs.declared.guard.GuardedStop.{GuardedStop}
+use Rattle.guard.specs.declared.stops.GuardedStop.{GuardedStop}
 use Rattle.vm.specs.Calls.{viewOf, imageWords}
-use Rattle.vm.specs.Marks.{marked}
-use Rattle.vm.specs.Guard.{Input, GuardedEnd, stopNumber}
+use Rattle.guard.specs.Marks.{marked}
+use Rattle.vm.specs.Guard.{GuardedEnd}
+use Rattle.guard.specs.Input.{Input}
+use Rattle.guard.specs.Stops.{stopNumber}
 use Rattle.report.specs.Report.{headRecord, startRecords, byteRecords, endRecords, endBytes, reportOn}
 use Rattle.report.specs.Slots.{Reportable, endFrom}
 use Rattle.report.specs.Outcome.{written, served}

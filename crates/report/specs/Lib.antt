@@ -2,3 +2,4 @@ pub mod Report
 pub mod Slots
 pub mod Public
 pub mod Outcome
+pub mod Program

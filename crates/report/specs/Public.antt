@@ -6,8 +6,8 @@ use mathlib.Core.Bool.{false, cond}
 use lib.Dec.{eqb, ltb}
 use lib.ListN.{length, getD}
 use Rattle.vm.specs.Calls.{imageWords}
-use Rattle.vm.specs.Marks.{marked}
-use Rattle.vm.specs.Guard.{Input, inputRefusal}
+use Rattle.guard.specs.Marks.{marked}
+use Rattle.guard.specs.Input.{Input, inputRefusal}
 
 -- no report is longer
 abbrev pub reportLimit : ℕ

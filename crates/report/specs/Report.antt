@@ -11,11 +11,13 @@ use Rattle.tick.specs.declared.control.Fault.{Fault}
 use Rattle.tick.specs.declared.control.State.{State}
 use Rattle.tick.specs.declared.counters.Counters.{Counters}
 use Rattle.history.specs.Record.{codeOf}
-use Rattle.vm.specs.declared.trace.TraceRecord.{TraceRecord}
+use Rattle.trace.specs.declared.records.TraceRecord.{TraceRecord}
 use Rattle.vm.specs.Machine.{Machine}
 use Rattle.vm.specs.Calls.{imageWords}
-use Rattle.vm.specs.Marks.{Marks}
-use Rattle.vm.specs.Guard.{Input, GuardedEnd, stopNumber, guardedOf}
+use Rattle.guard.specs.Marks.{Marks}
+use Rattle.vm.specs.Guard.{GuardedEnd, guardedOf}
+use Rattle.guard.specs.Input.{Input}
+use Rattle.guard.specs.Stops.{stopNumber}
 
 -- kind 01, the head: image length, budget, breakpoint count
 unfoldable pub headRecord : ℕ → ℕ → ℕ → List ℕ

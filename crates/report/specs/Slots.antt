@@ -7,9 +7,10 @@ use lib.ListN.{take, drop, getD}
 use Rattle.encoding.specs.Bytes.{eachFrom}
 use Rattle.isa.specs.Text.{padded, textOf}
 use Rattle.vm.specs.declared.machine.Machine.{Machine as Code}
-use Rattle.vm.specs.declared.guard.GuardedStop.{GuardedStop}
+use Rattle.guard.specs.declared.stops.GuardedStop.{GuardedStop}
 use Rattle.vm.specs.Calls.{viewOf}
-use Rattle.vm.specs.Guard.{Input, GuardedEnd}
+use Rattle.vm.specs.Guard.{GuardedEnd}
+use Rattle.guard.specs.Input.{Input}
 use Rattle.report.specs.Report.{traceBytes, noRecord}
 
 -- the record in slot k: texts, numbers, addresses, phases

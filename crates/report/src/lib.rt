@@ -1,10 +1,12 @@
 // The report of a guarded run, written into lent bytes.
 mod call;
+mod program;
 mod records;
 mod rows;
 mod whole;
 
 pub use call::report;
+pub use program::report_bytes;
 
 // What the call for a report answers: the report's length, or the number of the refusal.
 pub enum Reported {

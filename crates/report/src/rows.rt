@@ -4,7 +4,7 @@ ghost use Prim.Native.Nat.{_+_, _*_, _≤_};
 ghost use lib.ListN.{length, getD};
 ghost use Rattle.encoding.specs.Bytes.{over};
 ghost use Rattle.vm.specs.Calls.{imageWords};
-ghost use Rattle.vm.specs.Marks.{marked};
+ghost use Rattle.guard.specs.Marks.{marked};
 ghost use Rattle.report.specs.Report.{startRecords, byteRecords, valueRecords};
 ghost use Rattle.report.specs.Slots.{slotRecords};
 use crate::records::put_byte;

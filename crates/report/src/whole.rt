@@ -5,7 +5,7 @@ ghost use Prim.Native.Nat.{_+_, _*_, _≤_};
 ghost use lib.ListN.{length};
 ghost use Rattle.encoding.specs.Bytes.{over};
 ghost use Rattle.vm.specs.Calls.{viewOf, imageWords};
-ghost use Rattle.vm.specs.Marks.{marked};
+ghost use Rattle.guard.specs.Marks.{marked};
 ghost use Rattle.report.specs.Report.{headRecord, startRecords, byteRecords, valueRecords, endRecord, endRecords, reportOn};
 ghost use Rattle.report.specs.Slots.{Reportable, inputFrom, endFrom};
 ghost use Rattle.report.specs.Public.{reportLimit};
@@ -16,9 +16,9 @@ use crate::rows::put_list;
 use crate::rows::put_starts;
 use crate::rows::put_trace;
 use crate::rows::put_values;
+use guard::GuardedStop;
 use tick::Counters;
 use tick::State;
-use vm::GuardedStop;
 use vm::Machine;
 
 // Kinds 01 to 03, at byte 0.

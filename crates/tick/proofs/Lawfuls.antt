@@ -10,14 +10,14 @@ use Rattle.isa.specs.declared.opcode.Opcode.the-variants.{LoadImmediate, LoadRe
 use Rattle.isa.specs.declared.opcode.Decoded.{Decoded}
 use Rattle.isa.specs.declared.opcode.Decoded.the-variants.{Known, Unknown}
 use Rattle.isa.specs.Word.{decodeWord}
+use Rattle.plan.specs.Plan.{executeTicks}
+use Rattle.plan.proofs.Plans.{ticks-few}
 use Rattle.tick.specs.declared.control.Control.{Control}
 use Rattle.tick.specs.declared.control.State.{State}
 use Rattle.tick.specs.declared.control.Operands.{Operands}
 use Rattle.tick.specs.declared.control.Tick.{Tick}
-use Rattle.tick.specs.Plan.{executeTicks}
 use Rattle.tick.specs.Tick.{decodeAs, decodeTick, executeTick, endedTick, laterTick, onward, tickOf}
 use Rattle.tick.specs.Lawful.{lawful}
-use Rattle.tick.proofs.Plans.{ticks-few}
 
 pub true-false : true ≡ false → ⊥
 true-false e = let z : _≡_ {A = ℕ} 0 1 = cc in omega arith

@@ -1,4 +1,3 @@
-pub mod Plan
 pub mod Tick
 pub mod Lawful
 pub mod Count

@@ -9,7 +9,7 @@ use Rattle.isa.specs.declared.opcode.Opcode.the-variants.{LoadImmediate, LoadRe
 use Rattle.isa.specs.declared.opcode.Decoded.{Decoded}
 use Rattle.isa.specs.declared.opcode.Decoded.the-variants.{Known, Unknown}
 use Rattle.isa.specs.Word.{decodeWord, digitX, digitY, byteYZ}
-use Rattle.tick.specs.Plan.{executeTicks}
+use Rattle.plan.specs.Plan.{executeTicks}
 use Rattle.tick.specs.declared.control.Fault.the-variants.{UnknownInstruction}
 use Rattle.tick.specs.declared.control.BusTransfer.the-variants.{Idle, Read, Write}
 use Rattle.tick.specs.declared.control.WordOption.{WordOption}

@@ -12,10 +12,10 @@ use crate::control::RegisterWrite;
 use crate::control::State;
 use crate::control::Tick;
 use crate::control::WordOption;
-use crate::plan::execute_tick_count;
 use isa::Decoded;
 use isa::Instruction;
 use isa::Opcode;
+use plan::execute_tick_count;
 
 fn with_control(s: State, control: Control) -> State
     ensures { λ r. ⌜ r ≡ withControl control s ⌝ }

@@ -2,8 +2,8 @@
 ghost use mathlib.Core.Path.{_≡_};
 ghost use Rattle.tick.specs.Lawful.{lawful};
 use crate::control::Control;
-use crate::plan::execute_tick_count;
 use isa::Instruction;
+use plan::execute_tick_count;
 
 // Where it is not, each call on the machine is refused 8.
 pub fn is_lawful(c: Control) -> bool

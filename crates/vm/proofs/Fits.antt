@@ -11,14 +11,14 @@ use lib.ListN.{length, drop, getD, length-map}
 use Rattle.isa.specs.declared.text.Text.{Text}
 use Rattle.isa.specs.Text.{text}
 use Rattle.disasm.specs.Disassembly.{disassembleText}
-use Rattle.tick.specs.declared.plan.TransferPlan.{TransferPlan}
+use Rattle.plan.specs.declared.plan.TransferPlan.{TransferPlan}
 use Rattle.tick.specs.Count.{overCounted}
 use Rattle.tick.specs.Lawful.{lawful}
 use Rattle.vm.specs.declared.machine.Machine.{Machine as Code}
-use Rattle.vm.specs.declared.trace.TraceRecord.{TraceRecord}
+use Rattle.trace.specs.declared.records.TraceRecord.{TraceRecord}
 use Rattle.vm.specs.declared.transfer.Done.{Done}
-use Rattle.vm.specs.declared.run.RunStop.the-variants.{AlreadyHalted, Refused}
-use Rattle.vm.specs.Trace.{liveTexts, liveLengths, shortTexts, newest}
+use Rattle.guard.specs.declared.stops.RunStop.the-variants.{AlreadyHalted, Refused}
+use Rattle.trace.specs.Trace.{liveTexts, liveLengths, shortTexts, newest}
 use Rattle.vm.specs.Machine.{Machine, nextText, nextDone, microStep}
 use Rattle.vm.specs.Instruction.{Steps, started, steps, stepInstruction, tickTexts, textsFrom}
 use Rattle.vm.specs.Run.{run}

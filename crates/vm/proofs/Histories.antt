@@ -23,11 +23,13 @@ use Rattle.history.proofs.Stores.{served, length-push, newest-pushed}
 use Rattle.history.proofs.Collects.{differences-ascending, differences-count, differences-live}
 use Rattle.vm.specs.declared.machine.Machine.{Machine as Code}
 use Rattle.vm.specs.declared.machine.Served.{Served}
-use Rattle.vm.specs.Trace.{liveLengths, shortTexts}
-use Rattle.vm.specs.Touched.{member, distinct}
+use Rattle.trace.specs.Trace.{liveLengths, shortTexts}
+use Rattle.trace.specs.Touched.{distinct}
+use Rattle.encoding.specs.Bytes.{member}
 use Rattle.vm.specs.Refusal.{partsOk}
 use Rattle.vm.specs.Calls.{isMachine, withHistory, serve}
-use Rattle.vm.specs.History.{storeRefusalIf, storeRefusal, undoRefusalIf, undoRefusal, snapshotOf, saved, savedStore, restoredState, restoredCounters, restoredWith, restored, undone}
+use Rattle.history.specs.Restore.{storeRefusalIf, undoRefusalIf, restoredState, restoredCounters}
+use Rattle.vm.specs.History.{storeRefusal, undoRefusal, snapshotOf, saved, savedStore, restoredWith, restored, undone}
 
 -- ---- the calls by their tests
 

@@ -1,7 +1,4 @@
--- The laws by subject: `Lists` of `member` and `distinct`, `Checks` of the tests of a state, `Rings` of the trace's slots, `Ticks`, `Turns` and `Runs` of a tick, a turn of the loop over ticks and one over instructions, `Guards` of a turn of the guarded loop, `Newest` of the texts that an instruction leaves in the trace and of its end, `Fits` of the calls by their tests, `Starts` of the calls that start a machine anew, `Loads` of the guarded run's input and its new machine, `Plain`, that the guarded machine is the plain one, `Histories` of the calls on the history, and `Reached`, that served calls leave a machine.
-pub mod Lists
-pub mod Checks
-pub mod Rings
+-- The laws by subject: `Ticks`, `Turns` and `Runs` of a tick, a turn of the loop over ticks and one over instructions, `Guards` of a turn of the guarded loop, `Newest` of the texts that an instruction leaves in the trace and of its end, `Fits` of the calls by their tests, `Starts` of the calls that start a machine anew, `Loads` of the guarded run's input and its new machine, `Plain`, that the guarded machine is the plain one, `Histories` of the calls on the history, and `Reached`, that served calls leave a machine.
 pub mod Ticks
 pub mod Turns
 pub mod Runs

@@ -14,8 +14,9 @@ use Rattle.vm.specs.declared.machine.Machine.{Machine as Code}
 use Rattle.vm.specs.View.{Fit}
 use Rattle.vm.specs.Refusal.{Sizes}
 use Rattle.vm.specs.Calls.{partsOf, viewOf, isMachine, restOf, restarted, imageWords, imageSize}
-use Rattle.vm.specs.Marks.{marked}
-use Rattle.vm.specs.Guard.{Input, zeroOne, inputRefusal, guardedStart, guardedRun, guardedOf}
+use Rattle.guard.specs.Marks.{marked}
+use Rattle.vm.specs.Guard.{guardedStart, guardedRun, guardedOf}
+use Rattle.guard.specs.Input.{Input, zeroOne, inputRefusal}
 use Rattle.vm.proofs.Starts.{size-few, new-ok}
 use Rattle.vm.proofs.Fits.{fit}
 

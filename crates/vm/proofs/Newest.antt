@@ -13,11 +13,11 @@ use lib.Seq.{take-suc, take-suc-set, getD-drop, getD-take, getD-append-add, drop
 use Rattle.isa.specs.declared.text.Text.{Text}
 use Rattle.tick.specs.Lawful.{lawful}
 use Rattle.tick.proofs.Lawfuls.{Next, lawful-small, tick-next}
-use Rattle.vm.specs.declared.trace.TraceRecord.{TraceRecord}
-use Rattle.vm.specs.Trace.{pushed, slots, turn, textAt, recordAt, liveTrace, liveTexts, newest}
+use Rattle.trace.specs.declared.records.TraceRecord.{TraceRecord}
+use Rattle.trace.specs.Trace.{pushed, slots, turn, textAt, recordAt, liveTrace, liveTexts, newest}
 use Rattle.vm.specs.Machine.{Machine, operandsOf, nextText, nextDone, microStep}
 use Rattle.vm.specs.Instruction.{Steps, started, ticked, unlessZero, steps, stepInstruction, tickTexts}
-use Rattle.vm.proofs.Rings.{length-slots, live-length}
+use Rattle.trace.proofs.Rings.{length-slots, live-length}
 use Rattle.vm.proofs.Turns.{spent}
 
 -- ---- a text is copied out of its slot

@@ -17,15 +17,18 @@ use Rattle.tick.specs.declared.control.State.{State}
 use Rattle.tick.specs.declared.counters.Counters.{Counters}
 use Rattle.tick.specs.Count.{overCounted, oneMore, countTick}
 use Rattle.tick.proofs.Lawfuls.{true-false}
-use Rattle.vm.specs.declared.guard.GuardedStop.{GuardedStop}
-use Rattle.vm.specs.declared.guard.GuardedStop.the-variants.{Halted, Breakpoint, Fault as Faulted, Budget, HiddenWord, HiddenJump}
-use Rattle.vm.specs.declared.run.RunStop.{RunStop}
-use Rattle.vm.specs.declared.run.RunStop.the-variants.{Breakpoint as RunBreakpoint, Budget as RunBudget, Refused}
+use Rattle.guard.specs.declared.stops.GuardedStop.{GuardedStop}
+use Rattle.guard.specs.declared.stops.GuardedStop.the-variants.{Halted, Breakpoint, Fault as Faulted, Budget, HiddenWord, HiddenJump}
+use Rattle.guard.specs.declared.stops.RunStop.{RunStop}
+use Rattle.guard.specs.declared.stops.RunStop.the-variants.{Breakpoint as RunBreakpoint, Budget as RunBudget, Refused}
 use Rattle.vm.specs.Machine.{Machine, microStep}
 use Rattle.vm.specs.Instruction.{Steps, started, ticked, unlessZero, steps, stepInstruction}
-use Rattle.vm.specs.Run.{Verdict, go, stop, haltStop, reached, verdictIf, verdict, closed, RunEnd, run}
+use Rattle.vm.specs.Run.{verdict, closed, RunEnd, run}
+use Rattle.guard.specs.Stops.{Verdict, go, stop, haltStop, reached, verdictIf}
 use Rattle.vm.specs.Calls.{restarted}
-use Rattle.vm.specs.Guard.{Guarded, GuardedEnd, Input, nextWord, guardedStep, haltedStop, guardIf, guardClosed, guardedEnd, hiddenJump, guard, guardedRun, inputRefusal, guardedStart, guardedOf}
+use Rattle.vm.specs.Guard.{Guarded, GuardedEnd, nextWord, guardedStep, guardClosed, guardedEnd, guard, guardedRun, guardedStart, guardedOf}
+use Rattle.guard.specs.Input.{Input, inputRefusal}
+use Rattle.guard.specs.Stops.{haltedStop, guardIf, hiddenJump}
 use Rattle.vm.proofs.Runs.{run-stops, run-goes}
 use Rattle.vm.proofs.Guards.{guard-stops, guard-goes, going}
 use Rattle.vm.proofs.Loads.{served-input}

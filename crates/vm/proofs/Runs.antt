@@ -5,18 +5,19 @@ use native.Mathlib.Omega.{arith}
 use mathlib.Core.Path.{_≡_, refl, ap, _∙_}
 use mathlib.Core.Bool.{Bool, true, false, _&&_}
 use mathlib.Core.List.{List}
-use borrow.Author.Tests.{eq-eqb, ne-eqb}
+use borrow.Author.Tests.{eqb-false}
 use lib.Dec.{eqb, leb}
-use Rattle.tick.specs.declared.control.Fault.{Fault}
-use Rattle.tick.specs.declared.control.Fault.the-variants.{Healthy, UnknownInstruction, StepBudgetExhausted}
 use Rattle.tick.specs.declared.control.Control.{Control}
+use Rattle.tick.specs.declared.control.State.{State}
 use Rattle.tick.specs.Count.{overCounted}
 use Rattle.tick.specs.Lawful.{lawful}
-use Rattle.vm.specs.declared.run.RunStop.{RunStop}
-use Rattle.vm.specs.declared.run.RunStop.the-variants.{Breakpoint, Budget, Refused}
+use Rattle.guard.specs.declared.stops.RunStop.{RunStop}
+use Rattle.guard.specs.declared.stops.RunStop.the-variants.{Halted, Breakpoint, Fault as Faulted, Budget, AlreadyHalted, Refused}
+use Rattle.guard.specs.Stops.{Verdict, go, stop, verdictIf, reached, after}
 use Rattle.vm.specs.Machine.{Machine}
 use Rattle.vm.specs.Instruction.{stepInstruction}
-use Rattle.vm.specs.Run.{Verdict, go, stop, haltStop, verdictIf, reached, verdict, closed, runEnd, after, spentControl, run}
+use Rattle.vm.specs.Run.{verdict, closed, runEnd, spentControl, run}
+use Rattle.vm.specs.View.{Parts, parts, view, Fit, spentCore, stoppedCore}
 
 -- ---- a run by its verdicts: the law of `run` and of the guarded run (`Guards`)
 
@@ -34,10 +35,12 @@ module _ {A B S : Type 0} (v : ℕ → ℕ → S → Verdict A) (end : ℕ → S
 
 -- ---- `run`
 
-closed-halt : (f : Fault) (m : Machine) → closed (haltStop f) m ≡ m
-closed-halt Healthy m = refl
-closed-halt (UnknownInstruction w a) m = refl
-closed-halt (StepBudgetExhausted w a) m = refl
+-- to go on is to have found the machine running and a budget left
+to-go : (h b z f : Bool) (s : State) → verdictIf h b z f s ≡ go → (h ≡ false) × (z ≡ false)
+to-go false false false f s e = (refl, refl)
+to-go false false true f s e = absurd (let x : _≡_ {A = ℕ} 0 1 = cc in omega arith)
+to-go false true z f s e = absurd (let x : _≡_ {A = ℕ} 0 1 = cc in omega arith)
+to-go true b z f s e = absurd (let x : _≡_ {A = ℕ} 0 1 = cc in omega arith)
 
 module _ (b : List ℕ) (k n : ℕ) (m : Machine) where
   pub run-stops : (c : RunStop) → verdict b k n m ≡ stop c → run b k n m ≡ runEnd k m c
@@ -48,28 +51,38 @@ module _ (b : List ℕ) (k n : ℕ) (m : Machine) where
   unfolding run
   run-goes e z = goes-on (verdict b) runEnd Budget (λ m. stepInstruction m .machine) (run b) (λ k m. refl) (λ k n m. refl) k n m e z
 
-  pub at-halt : m .state .control .halted ≡ true → run b k n m ≡ record { stop = haltStop (m .state .fault); executed = k; machine = m }
-  at-halt h =
-      run-stops _ (λ i. verdictIf (h i) (reached b k (m .state .control .pc)) (eqb n 0) (overCounted (m .counters)) (m .state))
-      ∙ (λ i. record { stop = haltStop (m .state .fault); executed = k; machine = closed-halt (m .state .fault) m i })
-
-  pub at-break : m .state .control .halted ≡ false → reached b k (m .state .control .pc) ≡ true → run b k n m ≡ runEnd k m (Breakpoint (m .state .control .pc))
-  at-break h r = run-stops _ (λ i. verdictIf (h i) (r i) (eqb n 0) (overCounted (m .counters)) (m .state))
-
-  pub at-end : m .state .control .halted ≡ false → reached b k (m .state .control .pc) ≡ false → n ≡ 0 → run b k n m ≡ runEnd k m Budget
-  at-end h r z = run-stops _ (λ i. verdictIf (h i) (r i) (eq-eqb n 0 z i) (overCounted (m .counters)) (m .state))
-
-  pub at-over : m .state .control .halted ≡ false → reached b k (m .state .control .pc) ≡ false → (n ≡ 0 → ⊥) → overCounted (m .counters) ≡ true → run b k n m ≡ runEnd k m (Refused 9)
-  at-over h r z o = run-stops _ (λ i. verdictIf (h i) (r i) (ne-eqb n 0 z i) (o i) (m .state))
-
-  pub at-go : m .state .control .halted ≡ false → reached b k (m .state .control .pc) ≡ false → (n ≡ 0 → ⊥) → overCounted (m .counters) ≡ false → run b k n m ≡ run b (k + 1) (n - 1) (stepInstruction m .machine)
-  at-go h r z o = run-goes (λ i. verdictIf (h i) (r i) (ne-eqb n 0 z i) (o i) (m .state)) z
+  pub running : verdict b k n m ≡ go → (m .state .control .halted ≡ false) × (n ≡ 0 → ⊥)
+  running e = let t = to-go (m .state .control .halted) (reached b k (m .state .control .pc)) (eqb n 0) (overCounted (m .counters)) (m .state) e in (t .0, eqb-false n 0 (t .1))
 
 -- a halted control unit is lawful whatever its execute ticks
 halted-ok : (a b : Bool) → a && b ≡ true → a && true ≡ true
 halted-ok true b e = refl
 halted-ok false b e = e
 
-pub spent-lawful : (c : Control) → lawful c ≡ true → lawful (spentControl c) ≡ true
+spent-lawful : (c : Control) → lawful c ≡ true → lawful (spentControl c) ≡ true
 unfolding lawful
 spent-lawful c e = halted-ok (leb (c .tick) 6) _ e
+
+-- ---- the parts after a stop
+
+abbrev pub stoppedParts : RunStop → Parts → Parts
+stoppedParts c q = parts (stoppedCore c (q .core)) (q .memory) (q .registers) (q .touched) (q .texts) (q .numbers) (q .addresses) (q .phases) (q .lengths)
+
+pub stopped-view : (c : RunStop) (q : Parts) → view (stoppedParts c q) ≡ closed c (view q)
+stopped-view Halted q = refl
+stopped-view (Breakpoint a) q = refl
+stopped-view Faulted q = refl
+stopped-view Budget q = refl
+stopped-view AlreadyHalted q = refl
+stopped-view (Refused n) q = refl
+
+pub spent-fit : (q : Parts) → Fit q → Fit (parts (spentCore (q .core)) (q .memory) (q .registers) (q .touched) (q .texts) (q .numbers) (q .addresses) (q .phases) (q .lengths))
+spent-fit q f = record { control = spent-lawful (q .core .state .control) (f .control); touched = f .touched; trace = f .trace }
+
+pub stopped-fit : (c : RunStop) (q : Parts) → Fit q → Fit (stoppedParts c q)
+stopped-fit Halted q f = f
+stopped-fit (Breakpoint a) q f = f
+stopped-fit Faulted q f = f
+stopped-fit Budget q f = spent-fit q f
+stopped-fit AlreadyHalted q f = f
+stopped-fit (Refused n) q f = f

@@ -13,8 +13,8 @@ use Rattle.isa.specs.Text.{padded}
 use Rattle.tick.specs.Lawful.{lawful}
 use Rattle.vm.specs.declared.machine.Machine.{Machine as Code}
 use Rattle.vm.specs.declared.machine.Served.{Served}
-use Rattle.vm.specs.Trace.{liveLengths, shortTexts}
-use Rattle.vm.specs.Touched.{distinct}
+use Rattle.trace.specs.Trace.{liveLengths, shortTexts}
+use Rattle.trace.specs.Touched.{distinct}
 use Rattle.vm.specs.Refusal.{partsOk}
 use Rattle.vm.specs.Calls.{isMachine, restarted, imageWords, imageSize, serve}
 

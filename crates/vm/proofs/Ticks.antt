@@ -5,25 +5,28 @@ use native.Mathlib.Omega.{arith}
 use mathlib.Core.Path.{_≡_, _∙_}
 use mathlib.Core.Bool.{Bool, true, false, cond, not, _&&_}
 use mathlib.Core.List.{List}
-use lib.Dec.{leb, lit≤}
+use lib.Dec.{leb, eqb, lit≤}
 use lib.ListN.{length, length-map}
 use Rattle.isa.specs.declared.opcode.Opcode.the-variants.{LoadImmediate, LoadRegister, LoadMemory, StoreMemory, Add, Negate, ShiftRight, ShiftLeft, And, Or, Xor, Jump, Halt}
 use Rattle.isa.specs.declared.opcode.Decoded.{Decoded}
 use Rattle.isa.specs.declared.opcode.Decoded.the-variants.{Known, Unknown}
 use Rattle.isa.specs.declared.text.Text.{Text}
 use Rattle.isa.specs.Text.{ascii, text}
+use Rattle.isa.proofs.Texts.{length-padded}
 use Rattle.isa.specs.Word.{decodeWord}
 use Rattle.isa.specs.Format.{hex4, fill, fillByte}
+use Rattle.plan.specs.Plan.{executeTicks, fetchText, loadText, storeText, executeText, tickTemplate, tickText}
+use Rattle.tick.specs.declared.control.Control.{Control}
 use Rattle.tick.specs.declared.control.State.{State}
 use Rattle.tick.specs.declared.control.Operands.{Operands}
 use Rattle.tick.specs.declared.control.Tick.{Tick}
 use Rattle.tick.specs.declared.counters.Counters.{Counters}
-use Rattle.tick.specs.Plan.{fetchText, loadText, storeText, executeText, tickTemplate, tickText}
-use Rattle.tick.specs.Tick.{decodeAs, decodeTick, executeTick, endedTick, laterTick, onward, tickOf}
+use Rattle.tick.specs.Tick.{withControl, plain, nextPc, haltingTick, toTick, decodeAs, decodeTick, executeTick, endedTick, laterTick, onward, tickOf}
 use Rattle.tick.specs.Count.{countTick}
-use Rattle.vm.specs.declared.trace.TraceRecord.{TraceRecord}
-use Rattle.vm.specs.Trace.{pushed}
-use Rattle.vm.specs.Touched.{touchedBy}
+use Rattle.trace.specs.declared.records.TraceRecord.{TraceRecord}
+use Rattle.trace.specs.Trace.{pushed}
+use Rattle.trace.specs.Touched.{touchedBy}
+use Rattle.trace.proofs.Places.{Addressed}
 use Rattle.vm.specs.Machine.{Machine, operandsOf, registerOf, registersAfter, memoryAfter, phaseNumber, nextTextOn, nextText, afterTick, microStep, doneBy, nextDone}
 
 -- ---- a register that a tick writes is one of sixteen
@@ -80,6 +83,59 @@ named (suc (suc zero)) s o = omega arith
 named (suc (suc (suc zero))) s o = decode-named (decodeWord (s .control .ir)) s
 named (suc (suc (suc (suc n)))) s o = onward-named n (executeTick (decodeWord (s .control .ir)) n s o) (execute-named (decodeWord (s .control .ir)) n s o)
 
+-- ---- the address of a bus write is MAR, a byte
+
+module _ (s : State) (o : Operands) (byte : s .control .mar < 256) where
+  execute-sends : (d : Decoded) (n : ℕ) → Addressed (executeTick d n s o .bus)
+  unfolding executeTick
+  execute-sends (Known LoadImmediate) n = tt
+  execute-sends (Known LoadRegister) n = tt
+  execute-sends (Known LoadMemory) zero = tt
+  execute-sends (Known LoadMemory) (suc zero) = tt
+  execute-sends (Known LoadMemory) (suc (suc n)) = tt
+  execute-sends (Known StoreMemory) zero = tt
+  execute-sends (Known StoreMemory) (suc zero) = tt
+  execute-sends (Known StoreMemory) (suc (suc n)) = byte
+  execute-sends (Known Add) n = tt
+  execute-sends (Known Negate) n = tt
+  execute-sends (Known ShiftRight) n = tt
+  execute-sends (Known ShiftLeft) n = tt
+  execute-sends (Known And) n = tt
+  execute-sends (Known Or) n = tt
+  execute-sends (Known Xor) n = tt
+  execute-sends (Known Jump) n = tt
+  execute-sends (Known Halt) n = tt
+  execute-sends Unknown n = tt
+
+  decode-sends : (d : Decoded) → Addressed (decodeAs d s .bus)
+  decode-sends (Known c) = go (eqb (executeTicks (Known c)) 0)
+    where
+      at : Control
+      at = nextPc (executeTicks (Known c)) (s .control)
+
+      go : (b : Bool) → Addressed (cond b (haltingTick s at) (plain (withControl (toTick 4 at) s)) .bus)
+      go true = tt
+      go false = tt
+  decode-sends Unknown = tt
+
+  onward-sends : (n : ℕ) (q : Tick) → Addressed (q .bus) → Addressed (onward n q .bus)
+  onward-sends n q h = go (leb (q .state .control .«execute_ticks») (n + 1))
+    where
+      go : (b : Bool) → Addressed (cond b (endedTick q) (laterTick q) .bus)
+      go true = h
+      go false = h
+
+  sent : (k : ℕ) → Addressed (tickOf k s o .bus)
+  unfolding tickOf decodeTick
+  sent zero = tt
+  sent (suc zero) = tt
+  sent (suc (suc zero)) = tt
+  sent (suc (suc (suc zero))) = decode-sends (decodeWord (s .control .ir))
+  sent (suc (suc (suc (suc n)))) = onward-sends n (executeTick (decodeWord (s .control .ir)) n s o) (execute-sends (decodeWord (s .control .ir)) n)
+
+  pub sends : (k : ℕ) {q : Tick} → q ≡ tickOf k s o → Addressed (q .bus)
+  sends k e = rw e (sent k)
+
 -- ---- no text of a tick is over 32 bytes
 
 execute-fits : (d : Decoded) (n : ℕ) (taken : Bool) → length (ascii (executeText d n taken)) ≤ 32
@@ -118,6 +174,11 @@ text-fits t taken w = rw (length-map (ascii (tickTemplate t taken w)) (fillByte 
 
 pub short-text : (t : ℕ) (taken : Bool) (w : ℕ) {x : Text} → x ≡ text (tickText t taken w) → x .len ≤ 32
 short-text t taken w e = rw e (text-fits t taken w)
+
+-- so its field is 32 bytes long
+pub text-field : (t : ℕ) (taken : Bool) (w : ℕ) {x : Text} → x ≡ text (tickText t taken w) → length (x .bytes) ≡ 32
+unfolding text
+text-field t taken w e = rw e (length-padded 32 (tickText t taken w) (text-fits t taken w))
 
 -- ---- the calls of one tick
 

@@ -11,15 +11,15 @@ use Rattle.isa.specs.declared.text.Text.{Text}
 use Rattle.isa.specs.Text.{ascii, text}
 use Rattle.isa.specs.Word.{instruction}
 use Rattle.disasm.specs.Disassembly.{disassembleText}
+use Rattle.plan.specs.declared.plan.Phase.the-variants.{Halt}
+use Rattle.plan.specs.declared.plan.TransferPlan.{TransferPlan}
+use Rattle.plan.specs.Plan.{phaseOf}
 use Rattle.tick.specs.declared.control.State.{State}
 use Rattle.tick.specs.declared.control.Fault.{Fault}
 use Rattle.tick.specs.declared.control.Fault.the-variants.{Healthy, UnknownInstruction, StepBudgetExhausted}
 use Rattle.tick.specs.declared.control.BusTransfer.the-variants.{Idle}
 use Rattle.tick.specs.declared.control.AluRecord.the-variants.{Unused}
 use Rattle.tick.specs.declared.control.RegisterWrite.the-variants.{Unwritten}
-use Rattle.tick.specs.declared.plan.Phase.the-variants.{Halt}
-use Rattle.tick.specs.declared.plan.TransferPlan.{TransferPlan}
-use Rattle.tick.specs.Plan.{phaseOf}
 use Rattle.vm.specs.declared.machine.Machine.{Machine as Code}
 use Rattle.vm.specs.declared.transfer.Core.{Core}
 use Rattle.vm.specs.declared.transfer.Done.{Done}
@@ -32,7 +32,7 @@ use Rattle.vm.specs.declared.readings.InstructionRead.{InstructionRead}
 use Rattle.vm.specs.declared.readings.TextRead.{TextRead}
 use Rattle.vm.specs.declared.readings.PositionRead.{PositionRead}
 use Rattle.vm.specs.declared.readings.ImageRead.{ImageRead}
-use Rattle.vm.specs.declared.run.RunStop.the-variants.{AlreadyHalted, Refused}
+use Rattle.guard.specs.declared.stops.RunStop.the-variants.{AlreadyHalted, Refused}
 use Rattle.vm.specs.Machine.{Machine, nextText, nextDone, microStep}
 use Rattle.vm.specs.Instruction.{stepInstruction, tickTexts, textsFrom}
 use Rattle.vm.specs.Run.{RunEnd, run}

@@ -1,4 +1,4 @@
--- Worked examples (01, section 9, 1* to 9*). Each row is a machine, the number of ticks that it makes, and what is then seen of it. One theorem says that the definitions give each row.
+-- Worked examples (01, section 9, 1* to 13*). Each row is a machine and the number of ticks that it makes, or the input of a guarded run, and what is then seen. One theorem says that the definitions give each row.
 -- Assumes nothing.
 use Prim.Native.Nat.{ℕ, zero, suc, _-_}
 use Prim.Native.String.{String}
@@ -10,16 +10,23 @@ use Rattle.isa.specs.declared.text.Text.{Text}
 use Rattle.isa.specs.Text.{ascii, text}
 use Rattle.isa.specs.Opcode.{digits, decodeNibble}
 use Rattle.isa.specs.Format.{fill}
+use Rattle.plan.specs.Plan.{fetchText, loadText, executeText, tickTemplate, tickText}
 use Rattle.tick.specs.declared.control.Fault.{Fault}
 use Rattle.tick.specs.declared.control.Fault.the-variants.{Healthy, UnknownInstruction}
 use Rattle.tick.specs.declared.control.State.{State}
 use Rattle.tick.specs.Count.{countTick}
-use Rattle.tick.specs.Plan.{fetchText, executeText, tickTemplate, tickText}
 use Rattle.tick.specs.Tick.{decodeTick, right16, left16, executeTick, tickOf}
-use Rattle.vm.specs.declared.trace.TraceRecord.{TraceRecord}
-use Rattle.vm.specs.Trace.{pushed, slots, liveTrace, newest}
+use Rattle.encoding.specs.Bytes.{member}
+use Rattle.guard.specs.Marks.{marked, instructionMarks}
+use Rattle.guard.specs.Stops.{stopNumber}
+use Rattle.guard.specs.Input.{Input}
+use Rattle.trace.specs.declared.records.TraceRecord.{TraceRecord}
+use Rattle.trace.specs.Trace.{pushed, slots, liveTrace, newest}
 use Rattle.vm.specs.Machine.{Machine, nextText, microStep}
+use Rattle.vm.specs.Instruction.{ticked, steps, stepInstruction}
+use Rattle.trace.specs.Touched.{noted}
 use Rattle.vm.specs.Calls.{viewOf, restarted, imageWords}
+use Rattle.vm.specs.Guard.{guardedStart, guardedRun, guardedOf}
 
 -- a state that goes on at an address
 abbrev pub goingOn : ℕ → State → State
@@ -42,45 +49,72 @@ unfoldable pub microSteps : ℕ → Machine → Machine
 microSteps zero m = m
 microSteps (suc n) m = microSteps n (microStep m)
 
--- image, registers, PC, ticks
-pub record Given : Type 0 where
-  pub image : List ℕ
-  pub registers : List ℕ
-  pub address : ℕ
-  pub ticks : ℕ
+-- image, registers, PC and ticks; or a guarded run
+pub data Given : Type 0 where
+  ticks : List ℕ → List ℕ → ℕ → ℕ → Given
+  guarded : Input → Given
 
--- the newest text of the trace, R1, PC, the two counts, halted, the fault
+-- the number of the stop and the marks of R1 and of words 11 and 12, of a guarded run; the newest text of the trace, R1, PC, the four counts, halted, the fault
 pub record Seen : Type 0 where
+  pub stop : List ℕ
+  pub marks : List ℕ
   pub texts : List Text
   pub r1 : ℕ
   pub pc : ℕ
   pub instructions : ℕ
   pub operations : ℕ
+  pub reads : ℕ
+  pub writes : ℕ
   pub halted : Bool
   pub fault : Fault
 
+abbrev pub seenOf : List ℕ → List ℕ → Machine → Seen
+seenOf s k m = record {
+  stop = s;
+  marks = k;
+  texts = map (λ (r : TraceRecord). r .text) (newest 1 (m .trace));
+  r1 = getD (m .registers) 1 0;
+  pc = m .state .control .pc;
+  instructions = m .counters .instructions;
+  operations = m .counters .«micro_operations»;
+  reads = m .counters .«bus_reads»;
+  writes = m .counters .«bus_writes»;
+  halted = m .state .control .halted;
+  fault = m .state .fault;
+}
+
 unfoldable pub seen : Given → Seen
-seen g =
-    let m = microSteps (g .ticks) (machineWith (g .image) (g .registers) (g .address)) in
-    record {
-      texts = map (λ (r : TraceRecord). r .text) (newest 1 (m .trace));
-      r1 = getD (m .registers) 1 0;
-      pc = m .state .control .pc;
-      instructions = m .counters .instructions;
-      operations = m .counters .«micro_operations»;
-      halted = m .state .control .halted;
-      fault = m .state .fault;
-    }
+seen (ticks image words p n) = seenOf [] [] (microSteps n (machineWith image words p))
+seen (guarded i) =
+    let e = guardedOf marked i in
+    let k = e .guarded .marks in
+    seenOf (stopNumber (e .stop) ∷ []) (getD (k .registers) 1 0 ∷ getD (k .memory) 0x11 0 ∷ getD (k .memory) 0x12 0 ∷ []) (e .guarded .machine)
 
 pub record Row : Type 0 where
   pub given : Given
   pub answer : Seen
 
--- image, registers, PC, ticks; text, R1, PC, instructions, halted, fault
+-- image, registers, PC, ticks; text, R1, PC, instructions, halted, fault. All of them fetch once and write nothing
 abbrev pub row : List ℕ → List ℕ → ℕ → ℕ → String → ℕ → ℕ → ℕ → Bool → Fault → Row
 row image words p n x v q k h f = record {
-  given = record { image = image; registers = words; address = p; ticks = n };
-  answer = record { texts = text (ascii x) ∷ []; r1 = v; pc = q; instructions = k; operations = n; halted = h; fault = f };
+  given = ticks image words p n;
+  answer = record { stop = []; marks = []; texts = text (ascii x) ∷ []; r1 = v; pc = q; instructions = k; operations = n; reads = 1; writes = 0; halted = h; fault = f };
+}
+
+-- a program, and in word 10, which is marked, a value
+abbrev pub hiding : List ℕ → ℕ → Input
+hiding program value = record {
+  image = program ++ (replicate (16 - length program) 0 ++ (value ∷ []));
+  marks = replicate 16 0 ++ (1 ∷ replicate 239 0);
+  budget = 9;
+  breaks = [];
+}
+
+-- the input of a guarded run; the stop, the marks of R1 and of words 11 and 12, text, R1, PC, instructions, ticks, reads, writes, halted, fault
+abbrev pub guardedRow : Input → ℕ → List ℕ → String → ℕ → ℕ → ℕ → ℕ → ℕ → ℕ → Bool → Fault → Row
+guardedRow i s g x v q k n a b h f = record {
+  given = guarded i;
+  answer = record { stop = s ∷ []; marks = g; texts = text (ascii x) ∷ []; r1 = v; pc = q; instructions = k; operations = n; reads = a; writes = b; halted = h; fault = f };
 }
 
 unfoldable pub rows : List Row
@@ -97,8 +131,12 @@ rows =
     ∷ row (replicate 255 0 ++ (0x1105 ∷ [])) [] 255 4 "PC + 1 -> PC" 0 0 0 false Healthy
     ∷ row (0xD120 ∷ []) (0 ∷ 1 ∷ []) 0 5 "if R1 = R0: 20 -> PC (not taken)" 1 1 1 false Healthy
     ∷ row (0xD120 ∷ []) (7 ∷ 7 ∷ []) 0 5 "if R1 = R0: 20 -> PC" 7 0x20 1 false Healthy
+    ∷ guardedRow (record { image = 0xE000 ∷ []; marks = replicate 256 0; budget = 1; breaks = 0 ∷ [] }) 0 (0 ∷ 0 ∷ 0 ∷ []) "PC + 1 -> PC" 0 1 1 4 1 0 true Healthy
+    ∷ guardedRow (hiding (0x3110 ∷ 0x4111 ∷ 0x1105 ∷ 0x4112 ∷ 0xE000 ∷ []) 0x1234) 0 (0 ∷ 1 ∷ 0 ∷ []) "PC + 1 -> PC" 5 5 5 30 6 2 true Healthy
+    ∷ guardedRow (hiding (0x3110 ∷ 0xD105 ∷ []) 0x1234) 5 (1 ∷ 0 ∷ 0 ∷ []) "MDR -> R1" 0x1234 1 1 7 2 0 false Healthy
+    ∷ guardedRow (hiding (0x3010 ∷ 0xD005 ∷ []) 0x1234) 2 (0 ∷ 0 ∷ 0 ∷ []) "PC + 1 -> PC" 0 6 2 16 4 0 true (UnknownInstruction 0 5)
     ∷ []
 
 pub rows-hold : map (λ (r : Row). seen (r .given)) rows ≡ map (λ (r : Row). r .answer) rows
-unfolding rows seen microSteps machineWith restarted imageWords liveTrace slots pushed microStep nextText countTick tickOf decodeTick executeTick right16 left16 tickText tickTemplate executeText fetchText decodeNibble digits fill
+unfolding rows seen microSteps machineWith restarted imageWords liveTrace slots pushed microStep nextText countTick tickOf decodeTick executeTick right16 left16 tickText tickTemplate executeText fetchText decodeNibble digits fill guardedOf guardedRun guardedStart stepInstruction steps ticked instructionMarks noted member loadText
 rows-hold = refl

@@ -3,29 +3,21 @@
 use Prim.Native.Nat.{ℕ, _-_}
 use mathlib.Core.Bool.{Bool, cond}
 use mathlib.Core.List.{List}
-use lib.Dec.{eqb, ltb}
+use lib.Dec.{eqb}
 use lib.ListN.{length}
 use Rattle.tick.specs.declared.control.State.{State}
 use Rattle.tick.specs.declared.counters.Counters.{Counters}
 use Rattle.history.specs.declared.differing.Differences.{Differences}
 use Rattle.history.specs.declared.snapshot.Snapshot.{Snapshot}
-use Rattle.history.specs.Record.{recordLength}
-use Rattle.history.specs.Store.{limitOf, pushCount, pushStore, newest}
+use Rattle.history.specs.Store.{pushCount, pushStore, newest}
 use Rattle.history.specs.Differences.{differencesOf}
+use Rattle.history.specs.Restore.{storeRefusalIf, undoRefusalIf, restoredState, restoredCounters}
 use Rattle.vm.specs.declared.machine.Machine.{Machine as Code}
 use Rattle.vm.specs.declared.machine.Served.{Served}
 use Rattle.vm.specs.Calls.{isMachine, serve, withHistory}
 
--- 7: the store holds no record; 8: it is no machine, or it has more records than the store holds. The store's length, whether it is a machine, its number of records
-abbrev pub storeRefusalIf : ℕ → Bool → ℕ → ℕ
-storeRefusalIf n ok k = cond (ltb n recordLength) 7 (cond ok (cond (ltb (limitOf n) k) 8 0) 8)
-
 unfoldable pub storeRefusal : ℕ → Code → ℕ
 storeRefusal n m = storeRefusalIf n (isMachine m) (m .«history_len»)
-
--- of `undo` then 10: there is nothing to undo; and 8: the bytes of the newest record are none's
-abbrev pub undoRefusalIf : ℕ → ℕ → Bool → ℕ
-undoRefusalIf r k good = cond (eqb r 0) (cond (eqb k 0) 10 (cond good 0 8)) r
 
 unfoldable pub undoRefusal : ℕ → Bool → Code → ℕ
 undoRefusal n good m = undoRefusalIf (storeRefusal n m) (m .«history_len») good
@@ -47,14 +39,6 @@ saved n m = serve (storeRefusal n m) (withHistory (pushCount n (m .«history_len
 
 unfoldable pub savedStore : List ℕ → Code → List ℕ
 savedStore d m = cond (eqb (storeRefusal (length d) m) 0) (pushStore d (m .«history_len») (snapshotOf m)) d
-
--- the state of a snapshot; last transfer and last ALU record stay
-abbrev pub restoredState : Snapshot → State → State
-restoredState s t = record { control = s .control; fault = s .fault; «last_transfer» = t .«last_transfer»; «last_alu» = t .«last_alu» }
-
--- the bus counters stay
-abbrev pub restoredCounters : Snapshot → Counters → Counters
-restoredCounters s c = record { instructions = s .instructions; «micro_operations» = s .«micro_operations»; «bus_reads» = c .«bus_reads»; «bus_writes» = c .«bus_writes» }
 
 -- a machine with a snapshot's words: touched addresses, state, counters, number of records; image and trace stay
 abbrev pub restoredWith : Snapshot → Differences → State → Counters → ℕ → Code → Code

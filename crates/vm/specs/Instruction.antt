@@ -6,7 +6,7 @@ use mathlib.Core.List.{List, [], _∷_}
 use lib.ListN.{length, getD}
 use Rattle.isa.specs.declared.text.Text.{Text}
 use Rattle.isa.specs.Text.{text}
-use Rattle.tick.specs.declared.plan.TransferPlan.{TransferPlan}
+use Rattle.plan.specs.declared.plan.TransferPlan.{TransferPlan}
 use Rattle.tick.specs.declared.control.BusTransfer.the-variants.{Idle}
 use Rattle.tick.specs.declared.control.RegisterWrite.the-variants.{Unwritten}
 use Rattle.vm.specs.declared.transfer.Done.{Done}

@@ -1,5 +1,3 @@
-pub mod Trace
-pub mod Touched
 pub mod Machine
 pub mod Instruction
 pub mod Run
@@ -7,6 +5,5 @@ pub mod View
 pub mod Refusal
 pub mod Calls
 pub mod History
-pub mod Marks
 pub mod Guard
 pub mod Examples

@@ -8,6 +8,7 @@ use lib.ListN.{getD, set}
 use Rattle.isa.specs.declared.text.Text.{Text}
 use Rattle.isa.specs.Text.{text}
 use Rattle.isa.specs.Word.{digitX, digitY, digitZ}
+use Rattle.plan.specs.Plan.{tickText}
 use Rattle.tick.specs.declared.control.State.{State}
 use Rattle.tick.specs.declared.control.Operands.{Operands}
 use Rattle.tick.specs.declared.control.Tick.{Tick}
@@ -16,13 +17,12 @@ use Rattle.tick.specs.declared.control.BusTransfer.the-variants.{Idle, Read, Wr
 use Rattle.tick.specs.declared.control.RegisterWrite.{RegisterWrite}
 use Rattle.tick.specs.declared.control.RegisterWrite.the-variants.{Unwritten, Written}
 use Rattle.tick.specs.declared.counters.Counters.{Counters}
-use Rattle.tick.specs.Plan.{tickText}
 use Rattle.tick.specs.Tick.{tickOf}
 use Rattle.tick.specs.Count.{countTick}
-use Rattle.vm.specs.declared.trace.TraceRecord.{TraceRecord}
+use Rattle.trace.specs.declared.records.TraceRecord.{TraceRecord}
 use Rattle.vm.specs.declared.transfer.Done.{Done}
-use Rattle.vm.specs.Trace.{pushed}
-use Rattle.vm.specs.Touched.{touchedBy}
+use Rattle.trace.specs.Trace.{pushed}
+use Rattle.trace.specs.Touched.{touchedBy}
 
 -- all that a tick reads or writes
 pub record Machine : Type 0 where

@@ -9,8 +9,8 @@ use lib.ListN.{length, take, getD}
 use Rattle.tick.specs.Lawful.{lawful}
 use Rattle.tick.specs.Count.{overCounted}
 use Rattle.vm.specs.declared.transfer.Core.{Core}
-use Rattle.vm.specs.Trace.{liveLengths, shortTexts}
-use Rattle.vm.specs.Touched.{distinct}
+use Rattle.trace.specs.Trace.{liveLengths, shortTexts}
+use Rattle.trace.specs.Touched.{distinct}
 use Rattle.vm.specs.View.{Parts}
 
 -- 8: the control unit; the image's length; the number of trace records and the lengths of their texts; the touched addresses, and none twice

@@ -1,38 +1,18 @@
 -- A run (01, section 4, and section 1, refusal 9; vm.rs, `run`): before each instruction the breakpoint, the budget, and the counters.
 -- Assumes nothing.
 use Prim.Native.Nat.{ℕ, zero, suc, _+_}
-use mathlib.Core.Bool.{Bool, true, false, cond}
+use mathlib.Core.Bool.{true}
 use mathlib.Core.List.{List}
 use lib.Dec.{eqb}
 use Rattle.tick.specs.declared.control.Control.{Control}
 use Rattle.tick.specs.declared.control.State.{State}
-use Rattle.tick.specs.declared.control.Fault.{Fault}
-use Rattle.tick.specs.declared.control.Fault.the-variants.{Healthy, UnknownInstruction, StepBudgetExhausted}
+use Rattle.tick.specs.declared.control.Fault.the-variants.{StepBudgetExhausted}
 use Rattle.tick.specs.Count.{overCounted}
-use Rattle.vm.specs.declared.run.RunStop.{RunStop}
-use Rattle.vm.specs.declared.run.RunStop.the-variants.{Halted, Breakpoint, Fault as Faulted, Budget, AlreadyHalted, Refused}
-use Rattle.vm.specs.Touched.{member}
+use Rattle.guard.specs.declared.stops.RunStop.{RunStop}
+use Rattle.guard.specs.declared.stops.RunStop.the-variants.{Halted, Breakpoint, Fault as Faulted, Budget, AlreadyHalted, Refused}
+use Rattle.guard.specs.Stops.{Verdict, reached, verdictIf, after}
 use Rattle.vm.specs.Machine.{Machine}
 use Rattle.vm.specs.Instruction.{stepInstruction}
-
--- before an instruction: go on, or stop
-pub data Verdict (A : Type 0) : Type 0 where
-  go : Verdict A
-  stop : A → Verdict A
-
--- the stop of a halted machine, by its fault
-abbrev pub haltStop : Fault → RunStop
-haltStop Healthy = Halted
-haltStop (UnknownInstruction w a) = Faulted
-haltStop (StepBudgetExhausted w a) = Faulted
-
--- a breakpoint is reached, never before the first instruction: breakpoints, instructions begun, PC
-abbrev pub reached : List ℕ → ℕ → ℕ → Bool
-reached breaks k pc = cond (eqb k 0) false (member pc breaks)
-
--- by the four tests in their order: halted, a breakpoint is reached, no budget is left, a counter is near its end
-abbrev pub verdictIf : Bool → Bool → Bool → Bool → State → Verdict RunStop
-verdictIf h b z f s = cond h (stop (haltStop (s .fault))) (cond b (stop (Breakpoint (s .control .pc))) (cond z (stop Budget) (cond f (stop (Refused 9)) go)))
 
 -- breakpoints, instructions begun, budget left
 abbrev pub verdict : List ℕ → ℕ → ℕ → Machine → Verdict RunStop
@@ -74,10 +54,6 @@ closed (Refused n) m = m
 
 abbrev pub runEnd : ℕ → Machine → RunStop → RunEnd
 runEnd k m c = record { stop = c; executed = k; machine = closed c m }
-
-abbrev pub after : {A B : Type 0} → Verdict A → (A → B) → (Unit {0} → B) → B
-after go f g = g tt
-after (stop c) f g = f c
 
 -- breakpoints, instructions begun, budget left
 unfoldable pub run : List ℕ → ℕ → ℕ → Machine → RunEnd

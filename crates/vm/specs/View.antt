@@ -6,11 +6,13 @@ use mathlib.Core.Bool.{true}
 use mathlib.Core.List.{List}
 use lib.ListN.{take}
 use Rattle.tick.specs.Lawful.{lawful}
-use Rattle.vm.specs.declared.trace.TraceRecord.{TraceRecord}
+use Rattle.guard.specs.declared.stops.RunStop.{RunStop}
+use Rattle.guard.specs.declared.stops.RunStop.the-variants.{Halted, Breakpoint, Fault, Budget, AlreadyHalted, Refused}
+use Rattle.trace.specs.declared.records.TraceRecord.{TraceRecord}
 use Rattle.vm.specs.declared.transfer.Core.{Core}
 use Rattle.vm.specs.Run.{spentState}
-use Rattle.vm.specs.Trace.{liveTrace, TraceFit}
-use Rattle.vm.specs.Touched.{TouchFit}
+use Rattle.trace.specs.Trace.{liveTrace, TraceFit}
+use Rattle.trace.specs.Touched.{TouchFit}
 use Rattle.vm.specs.Machine.{Machine}
 
 pub record Parts : Type 0 where
@@ -50,3 +52,12 @@ pub record Fit (q : Parts) : Type 0 where
 -- the small part, halted by a spent budget
 abbrev pub spentCore : Core → Core
 spentCore c = record { state = spentState (c .state); counters = c .counters; «touched_len» = c .«touched_len»; «trace_start» = c .«trace_start»; «trace_len» = c .«trace_len» }
+
+-- the small part after a stop
+abbrev pub stoppedCore : RunStop → Core → Core
+stoppedCore Halted c = c
+stoppedCore (Breakpoint a) c = c
+stoppedCore Fault c = c
+stoppedCore Budget c = spentCore c
+stoppedCore AlreadyHalted c = c
+stoppedCore (Refused n) c = c

@@ -1,28 +1,26 @@
 // The MASSEY machine: the arrays above one tick, instructions, runs, and the calls on a machine. Each
 // call takes the machine by value, checks it once, and gives it back.
 mod check;
-mod guard;
+mod guarded;
 mod instruction;
 mod machine;
-mod marks;
 mod micro;
 mod readings;
 mod report;
 mod run;
-mod touched;
-mod trace;
+mod texts;
 mod transfer;
 mod undo;
 
-pub use guard::GuardedRun;
-pub use guard::GuardedStop;
-pub use guard::guarded_run;
+pub use guarded::GuardedRun;
+pub use guarded::guarded_run;
 pub use instruction::Ticks;
 pub use machine::Machine;
 pub use machine::Served;
-pub use marks::Marks;
 pub use micro::MicroAnswer;
 pub use micro::MicroOp;
+pub use plan::execute_tick_count;
+pub use plan::transfer_plan;
 pub use readings::ImageRead;
 pub use readings::InstructionRead;
 pub use readings::NumberRead;
@@ -33,8 +31,4 @@ pub use report::InstructionAnswer;
 pub use report::InstructionReport;
 pub use run::Begun;
 pub use run::Ran;
-pub use run::RunStop;
-pub use tick::execute_tick_count;
-pub use tick::transfer_plan;
-pub use trace::TraceRecord;
 pub use transfer::Core;

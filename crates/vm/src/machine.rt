@@ -132,6 +132,22 @@ pub(crate) fn image_words(image: &[u16]) -> [u16; 256]
     words
 }
 
+// The marks of memory: the first 256, and open past them.
+pub(crate) fn mark_words(marks: &[u8]) -> [u8; 256]
+    ensures { λ r. ⌜ r ≡ imageWords (now (marks .entry)) ⌝ }
+{
+    let mut words = [0u8; 256];
+    let mut i = 0;
+    while i < 256 {
+        if i == marks.len() {
+            return words;
+        }
+        words[i] = marks[i];
+        i += 1;
+    }
+    words
+}
+
 // How many words of an image of that length count.
 pub(crate) fn image_size(len: usize) -> usize
     ensures { λ r. ⌜ r ≡ imageSize len ⌝ }

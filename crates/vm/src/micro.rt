@@ -8,17 +8,17 @@ use crate::check::step_refusal;
 use crate::instruction::Ticks;
 use crate::instruction::instruction_parts;
 use crate::machine::Machine;
-use crate::trace::Ring;
-use crate::trace::newest_text;
+use crate::texts::newest_text;
 use crate::transfer::Core;
 use crate::transfer::Done;
 use isa::Text;
+use plan::Phase;
+use plan::phase_of;
 use tick::BusTransfer;
 use tick::Fault;
-use tick::Phase;
 use tick::RegisterWrite;
 use tick::State;
-use tick::phase_of;
+use trace::Ring;
 
 // One register transfer, as it is reported.
 pub struct MicroOp {

@@ -9,12 +9,12 @@ use crate::instruction::Ticks;
 use crate::instruction::instruction_parts;
 use crate::machine::Machine;
 use crate::micro::has_fault;
-use crate::trace::Ring;
-use crate::trace::newest_texts;
+use crate::texts::newest_texts;
 use crate::transfer::Core;
 use disasm::disassemble;
 use isa::Text;
-use tick::TransferPlan;
+use plan::TransferPlan;
+use trace::Ring;
 
 // A summary of running one instruction to completion: the word at PC and its text, the texts of the
 // ticks that were made, and whether the last one halted or faulted.

@@ -1,9 +1,8 @@
 // Runs: instructions until the machine halts, a breakpoint, or the end of the budget.
 ghost use mathlib.Core.Path.{_≡_};
 ghost use mathlib.Core.Bool.{true, false};
-ghost use Rattle.vm.specs.Touched.{member};
-ghost use Rattle.vm.specs.Run.{reached, haltStop, run};
-ghost use Rattle.vm.specs.View.{parts, view, Fit, spentCore};
+ghost use Rattle.vm.specs.Run.{run};
+ghost use Rattle.vm.specs.View.{parts, view, Fit, spentCore, stoppedCore};
 ghost use Rattle.vm.specs.Refusal.{partsOk, Sizes};
 ghost use Rattle.vm.specs.Calls.{runOutcome, viewOf, isMachine, restOf};
 use crate::check::parts_ok;
@@ -11,60 +10,19 @@ use crate::instruction::Ticks;
 use crate::instruction::instruction_parts;
 use crate::machine::Machine;
 use crate::transfer::Core;
+use guard::RunStop;
+use guard::RunVerdict;
+use guard::run_verdict;
 use tick::Fault;
 use tick::State;
-use tick::is_over_counted;
 
 // A number of instructions begun.
 pub struct Begun(pub u64);
-
-// Why the machine stopped running. `Refused` has the refusal's number, and stands for no stop.
-pub enum RunStop {
-    Halted,
-    Breakpoint(u8),
-    Fault,
-    Budget,
-    AlreadyHalted,
-    Refused(u8),
-}
 
 pub struct RanCore {
     pub core: Core,
     pub stop: RunStop,
     pub executed: Begun,
-}
-
-fn contains(s: &[u8], b: u8) -> bool
-    ensures { λ r. ⌜ r ≡ member b (now (s .entry)) ⌝ }
-{
-    let mut i = 0;
-    while i < s.len() {
-        if s[i] == b {
-            return true;
-        }
-        i += 1;
-    }
-    false
-}
-
-// A breakpoint, never before the first instruction.
-pub(crate) fn at_break(breakpoints: &[u8], begun: u64, pc: u8) -> bool
-    ensures { λ r. ⌜ r ≡ reached (now (breakpoints .entry)) begun pc ⌝ }
-{
-    if begun == 0 {
-        return false;
-    }
-    contains(breakpoints, pc)
-}
-
-fn halt_stop(fault: Fault) -> RunStop
-    ensures { λ r. ⌜ r ≡ haltStop fault ⌝ }
-{
-    match fault {
-        Fault::Healthy => RunStop::Halted,
-        Fault::UnknownInstruction { .. } => RunStop::Fault,
-        Fault::StepBudgetExhausted { .. } => RunStop::Fault,
-    }
 }
 
 // The budget is spent.
@@ -96,6 +54,20 @@ pub(crate) fn exhausted(s: Core) -> Core
     }
 }
 
+// Of the stops only a spent budget changes the machine.
+fn stopped_core(stop: RunStop, core: Core) -> Core
+    ensures { λ r. ⌜ r ≡ stoppedCore stop core ⌝ }
+{
+    match stop {
+        RunStop::Halted => core,
+        RunStop::Breakpoint(_) => core,
+        RunStop::Fault => core,
+        RunStop::Budget => exhausted(core),
+        RunStop::AlreadyHalted => core,
+        RunStop::Refused(_) => core,
+    }
+}
+
 pub(crate) fn run_parts(
     from: Core,
     budget: Begun,
@@ -116,39 +88,14 @@ pub(crate) fn run_parts(
     let limit = budget.0;
     let mut begun: u64 = 0;
     loop {
-        if s.state.control.halted {
-            let state = s.state;
-            let fault = state.fault;
-            let stop = halt_stop(fault);
-            return RanCore {
-                core: s,
-                stop,
-                executed: Begun(begun),
-            };
-        }
-        let pc = s.state.control.pc;
-        let broken = at_break(breakpoints, begun, pc);
-        if broken {
-            return RanCore {
-                core: s,
-                stop: RunStop::Breakpoint(pc),
-                executed: Begun(begun),
-            };
-        }
-        if limit <= begun {
-            let core = exhausted(s);
+        let state = s.state;
+        let counters = s.counters;
+        let verdict = run_verdict(state, counters, breakpoints, begun, limit);
+        if let RunVerdict::Stop(stop) = verdict {
+            let core = stopped_core(stop, s);
             return RanCore {
                 core,
-                stop: RunStop::Budget,
-                executed: Begun(begun),
-            };
-        }
-        let counters = s.counters;
-        let over = is_over_counted(counters);
-        if over {
-            return RanCore {
-                core: s,
-                stop: RunStop::Refused(9),
+                stop,
                 executed: Begun(begun),
             };
         }

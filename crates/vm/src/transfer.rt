@@ -4,9 +4,7 @@ ghost use mathlib.Core.Bool.{false, not, _&&_};
 ghost use Prim.Native.Nat.{_<_};
 ghost use Rattle.vm.specs.Machine.{operandsOf, registerOf, registersAfter, memoryAfter, phaseNumber, microStep, nextDone};
 ghost use Rattle.vm.specs.View.{parts, view, Fit};
-use crate::touched::touch;
-use crate::trace::Ring;
-use crate::trace::push_trace;
+use plan::tick_text;
 use tick::BusTransfer;
 use tick::Counters;
 use tick::Operands;
@@ -14,7 +12,9 @@ use tick::RegisterWrite;
 use tick::State;
 use tick::count_tick;
 use tick::tick_of;
-use tick::tick_text;
+use trace::Ring;
+use trace::push_trace;
+use trace::touch;
 
 // What is small: passed by value at every level.
 pub struct Core {

@@ -1,85 +1,20 @@
 // The history in a lent store: a state is kept behind those before it, and the newest is given back.
 ghost use mathlib.Core.Path.{_≡_};
-ghost use Prim.Native.Nat.{_-_};
 ghost use lib.ListN.{length};
-ghost use Rattle.vm.specs.History.{storeRefusalIf, undoRefusalIf, saved, savedStore, restoredState, restoredCounters, undone};
+ghost use Rattle.vm.specs.History.{saved, savedStore, undone};
 use crate::check::parts_ok;
 use crate::machine::Machine;
 use crate::machine::Served;
 use crate::transfer::Core;
 use history::Snapshot;
 use history::differing_addresses;
-use history::history_limit;
 use history::newest_record;
+use history::one_less;
 use history::push_record;
-use tick::Counters;
-use tick::State;
-
-// 7 for a store that holds no record; 8 where it is no machine, or has more records than the store holds.
-fn store_refusal(good: bool, len: usize, count: usize) -> u8
-    ensures { λ r. ⌜ r ≡ storeRefusalIf len good count ⌝ }
-{
-    if len < 576 {
-        return 7;
-    }
-    if !good {
-        return 8;
-    }
-    if history_limit(len) < count {
-        return 8;
-    }
-    0
-}
-
-// Then 10 where there is nothing to undo, and 8 where the newest record is none.
-fn undo_refusal(refused: u8, count: usize, found: bool) -> u8
-    ensures { λ r. ⌜ r ≡ undoRefusalIf refused count found ⌝ }
-{
-    if refused != 0 {
-        return refused;
-    }
-    if count == 0 {
-        return 10;
-    }
-    if found { 0 } else { 8 }
-}
-
-fn one_less(n: usize) -> usize
-    ensures { λ r. ⌜ r ≡ n - 1 ⌝ }
-{
-    if n == 0 {
-        return 0;
-    }
-    n - 1
-}
-
-// The state that a snapshot gives back; the last transfer and the last operation of the ALU stay.
-fn restored_state(s: Snapshot, before: State) -> State
-    ensures { λ r. ⌜ r ≡ restoredState s before ⌝ }
-{
-    let control = s.control;
-    let fault = s.fault;
-    let last_transfer = before.last_transfer;
-    let last_alu = before.last_alu;
-    State {
-        control,
-        fault,
-        last_transfer,
-        last_alu,
-    }
-}
-
-// The bus counters stay.
-fn restored_counters(s: Snapshot, before: Counters) -> Counters
-    ensures { λ r. ⌜ r ≡ restoredCounters s before ⌝ }
-{
-    Counters {
-        instructions: s.instructions,
-        micro_operations: s.micro_operations,
-        bus_reads: before.bus_reads,
-        bus_writes: before.bus_writes,
-    }
-}
+use history::restored_counters;
+use history::restored_state;
+use history::store_refusal;
+use history::undo_refusal;
 
 // Both calls change the machine in its place, hand no part of it on but the small ones, and leave by
 // one exit: the compiler then copies none of it.

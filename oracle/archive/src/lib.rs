@@ -10,6 +10,12 @@ mod c {
             out: *mut u8,
             out_len: usize,
         ) -> i64;
+        pub fn massey_report(
+            input: *const u8,
+            input_len: usize,
+            out: *mut u8,
+            out_len: usize,
+        ) -> i64;
         pub fn massey_run(image: *const u8, image_len: usize, budget: u64) -> u64;
         pub fn massey_steps(image: *const u8, image_len: usize, n: u64) -> u64;
         pub fn massey_ticks(image: *const u8, image_len: usize, n: u64) -> u64;
@@ -44,6 +50,13 @@ pub fn disassemble(word: u16, out: &mut [u8]) -> i64 {
 pub fn listing(image: &[u8], out: &mut [u8]) -> i64 {
     // SAFETY: as above, and the two slices cannot overlap.
     unsafe { c::massey_listing(image.as_ptr(), image.len(), out.as_mut_ptr(), out.len()) }
+}
+
+/// The report's length, or minus the refusal's number. The input is what the
+/// report program reads.
+pub fn report(input: &[u8], out: &mut [u8]) -> i64 {
+    // SAFETY: as above.
+    unsafe { c::massey_report(input.as_ptr(), input.len(), out.as_mut_ptr(), out.len()) }
 }
 
 /// The micro operations of a run with that budget and no breakpoints, on a new

@@ -165,7 +165,7 @@ fn wrong_lengths(replay: &Replay, record: &Record) -> Vec<(String, Vec<u8>)> {
     wrong
 }
 
-/// The question of 'P' begins with a count of one byte, that of 'L' and 'R'
+/// The question of 'P' begins with a count of one byte, that of 'L', 'R' and 'G'
 /// with one of two; here it is another one than the bytes behind it say.
 fn wrong_counts(body: &[u8]) -> [Vec<u8>; 4] {
     let low = if body[0] == b'P' { 1 } else { 2 };

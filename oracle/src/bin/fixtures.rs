@@ -12,8 +12,7 @@ use std::{env, fs, io};
 
 const USAGE: &str = "usage: fixtures [--to FOLDER | --list PROGRAM FIXED | --list PROGRAM FULL | \
                      --script FAMILY NUMBER | --answer FAMILY NUMBER | \
-                     --report FAMILY NUMBER INPUT | --report-answer FAMILY NUMBER INPUT | \
-                     --report-sample]";
+                     --report FAMILY NUMBER INPUT | --report-answer FAMILY NUMBER INPUT]";
 
 fn main() -> ExitCode {
     let arguments: Vec<String> = env::args().skip(1).collect();
@@ -33,7 +32,6 @@ fn main() -> ExitCode {
                 report_program::answer(&input)
             })
         }
-        ["--report-sample"] => io::stdout().lock().write_all(&report_sample::list()),
         _ => Err(io::Error::other(USAGE)),
     };
     match done {
@@ -63,7 +61,10 @@ fn write(crates: &Path) -> io::Result<()> {
         &crates.join("massey_calls"),
         &script,
         &scripts::output(&script),
-    )
+    )?;
+    let input = report_program::bytes(&report_sample::invented());
+    let answer = report_program::answer(&input);
+    write_program(&crates.join("massey_report"), &input, &answer)
 }
 
 fn write_program(folder: &Path, stdin: &[u8], stdout: &[u8]) -> io::Result<()> {

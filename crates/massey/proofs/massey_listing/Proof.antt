@@ -3,8 +3,9 @@ use Prim.Native.Nat.{_≤_}
 use native.Mathlib.Omega.{arith}
 use mathlib.Core.Path.{sym, ap, _∙_}
 use denote.Ref.{now}
-use Rattle.disasm.specs.Listing as listing
-use Rattle.disasm.proofs.Listings.{bytes-at-most}
+use Rattle.listing.specs.Listing as listing
+use Rattle.listing.proofs.Listings.{bytes-at-most}
+use Rattle.report.specs.Public.{reportLimit}
 use Rattle.massey.specs.Calls.{outcome, listedNumber, listingOutcome}
 use Rattle.massey.proofs.Answers.{small, length-read, minus-fits, refusal-read}
 use borrow.Author.Needs.{needs}
@@ -12,11 +13,11 @@ use Rattle.massey.proofs.massey_listing.Statement.{statement}
 use Rattle.massey.proofs.massey_listing.Tie as tie
 
 -- a length that is answered, and a refusal's number
-at-most : (c : tie.After-known-told) → c .before .listed .given .0 .0 ≤ 11709
+at-most : (c : tie.After-known-told) → c .before .listed .given .0 .0 ≤ reportLimit
 at-most c =
     let p = c .before .before .before .before .before in
     let s = p .before .before .before .before .args in
-    bytes-at-most (now (s .image)) (now (s .out)) (sym (ap (λ (o : listing.Outcome). o .answer) (p .list-bytes .ensures)) ∙ c .before .listed .given .1)
+    omega (arith, bytes-at-most (now (s .image)) (now (s .out)) (sym (ap (λ (o : listing.Outcome). o .answer) (p .list-bytes .ensures)) ∙ c .before .listed .given .1))
 
 byte : (c : tie.After-known-told2) → c .before .listed2 .given .0 .0 ≤ 255
 byte c = omega (arith, c .known-told2 .given)

@@ -6,7 +6,7 @@ use mathlib.Core.Path.{_≡_, refl, sym, ap, _∙_}
 use lib.ListN.{length, replicate, length-append}
 use lib.Seq.{length-take-le}
 use denote.Ref.{now}
-use Rattle.disasm.proofs.Listings.{part-back}
+use Rattle.listing.proofs.Listings.{part-back}
 use Rattle.massey.specs.Machine.{wordsOf}
 use Rattle.massey.proofs.Machines.{count-fits, words-read, words-length, start-loaded}
 use borrow.Author.Needs.{needs}

@@ -3,7 +3,8 @@
 use mathlib.Core.Path.{_≡_, sym, ap, _∙_}
 use denote.Ref.{now}
 use lib.ListN.{length}
-use Rattle.vm.specs.Guard.{Input, GuardedEnd, endOf}
+use Rattle.vm.specs.Guard.{GuardedEnd, endOf}
+use Rattle.guard.specs.Input.{Input}
 use Rattle.report.specs.Slots.{inputFrom}
 use Rattle.report.proofs.Accepts.{input-accepted}
 use Rattle.report.proofs.Calls.{reportable, call-refused, call-short, call-served}

@@ -3,7 +3,7 @@ use mathlib.Core.Path.{sym, ap, _∙_}
 use borrow.Author.Tests.{eq-eqb, ne-eqb}
 use Rattle.isa.specs.Word.{decodeWord}
 use Rattle.isa.proofs.Words.{read-off}
-use Rattle.tick.specs.Plan.{executeTicks}
+use Rattle.plan.specs.Plan.{executeTicks}
 use Rattle.tick.proofs.Ticks.{decoded-tick}
 use borrow.Author.Needs.{needs}
 use Rattle.tick.proofs.execute.decode_tick.Statement.{statement}

@@ -1,8 +1,8 @@
 -- Assumes nothing.
 use Prim.Native.Nat.{ℕ}
 use mathlib.Core.Path.{refl, _∙_}
+use Rattle.plan.proofs.Plans.{from-three}
 use Rattle.tick.specs.Tick.{fetchTick}
-use Rattle.tick.proofs.Plans.{from-three}
 use borrow.Author.Needs.{needs}
 use Rattle.tick.proofs.execute.fetch_tick.Statement.{statement}
 use Rattle.tick.proofs.execute.fetch_tick.Tie as tie

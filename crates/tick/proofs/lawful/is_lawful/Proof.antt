@@ -3,7 +3,7 @@ use mathlib.Core.Path.{sym, ap, _∙_}
 use borrow.Author.Tests.{lt-ltb, lt-leb, le-leb}
 use Rattle.isa.specs.Word.{decodeWord}
 use Rattle.isa.proofs.Words.{read-off}
-use Rattle.tick.specs.Plan.{executeTicks}
+use Rattle.plan.specs.Plan.{executeTicks}
 use Rattle.tick.specs.Lawful.{lawful}
 use Rattle.tick.proofs.Lawfuls.{late-same, late-other}
 use borrow.Author.Needs.{needs}

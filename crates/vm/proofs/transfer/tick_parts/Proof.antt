@@ -1,3 +1,4 @@
+use Prim.Native.Nat.{_<_}
 use mathlib.Core.Path.{ap, _∙_}
 use denote.Ref.{now}
 use lib.Dec.{eqb}
@@ -6,9 +7,16 @@ use Rattle.tick.specs.declared.control.Tick.{Tick}
 use Rattle.tick.specs.Lawful.{lawful}
 use Rattle.tick.proofs.Lawfuls.{tick-next}
 use Rattle.vm.specs.View.{parts, view}
-use Rattle.vm.proofs.Ticks.{named, short-text, is-tick, is-done}
+use Rattle.trace.specs.Trace.{arraysOf}
+use Rattle.trace.specs.Touched.{placesOf}
+use Rattle.trace.proofs.Rings.{pushed-live}
+use Rattle.trace.proofs.Places.{touched-live}
+use Rattle.vm.proofs.Ticks.{named, sends, text-field, short-text, is-tick, is-done}
 use Rattle.vm.proofs.transfer.tick_parts.Statement.{statement}
 use Rattle.vm.proofs.transfer.tick_parts.Tie as tie
+
+mar : (s : tie.Start) → s .args .s .state .control .mar < 256
+mar s = search needs
 
 read-operands-requires : tie.Need-read-operands-requires
 read-operands-requires c κs = search needs
@@ -34,13 +42,10 @@ set-word-requires : tie.Need-set-word-requires
 set-word-requires c κs = search needs
 
 touch-requires : tie.Need-touch-requires
-touch-requires c κs = (c .before .before .before .before .before .before .before .before .before .before .before .before .before .before .before) .pre .1 .touched
+touch-requires c κs = search needs
 
 push-trace-requires : tie.Need-push-trace-requires
-push-trace-requires c κs =
-    let s = (c .before .before .before .before .before .before .before .before .before .before .before .before .before .before .before .before .before .before .before .before .before) in let a = s .args in
-    let o = (c .before .before .before .before .before .before .before .before .before .before .before .before .before .before .before .before .before) .read-operands .result in
-    (short-text (a .s .state .control .tick) (eqb (o .x) (o .zero)) (a .s .state .control .ir) ((c .before .before .before .before .before .before .before .before .before .before .before .before .before .before .before) .tick-text .ensures), s .pre .1 .trace)
+push-trace-requires c κs = search needs
 
 is-fault-requires : tie.Need-is-fault-requires
 is-fault-requires c κs = search needs
@@ -59,11 +64,16 @@ returns c =
     let q = (c .before) .push-trace in
     let v = view (parts (a .s) (now (a .memory)) (now (a .registers)) (now (a .touched)) (now (a .texts)) (now (a .numbers)) (now (a .addresses)) (now (a .phases)) (now (a .lengths))) in
     let n = tick-next (a .s .state) (o .result) (s .pre .1 .control) (s .pre .0) in
-    let e = ap (λ (z : Tick). z .state .control) (t .ensures) in (
-      is-tick v (o .result) (x .result) (h .result) (t .result) (o .ensures) (t .ensures) (k .result) (x .ensures) (h .ensures) (k .ensures) (m .ensures) (w .ensures) (q .ensures .0) (u .ensures .0),
+    let e = ap (λ (z : Tick). z .state .control) (t .ensures) in
+    let b = sends (a .s .state) (o .result) (mar s) (a .s .state .control .tick) (t .ensures) in
+    let g = eqb (o .result .x) (o .result .zero) in
+    let f = a .s .state .control in
+    let y = touched-live (t .result .bus) (placesOf (a .s .«touched_len») (now (a .touched))) (u .ensures) b (s .pre .1 .touched) in
+    let z = pushed-live (record { number = k .result .«micro_operations»; address = t .result .state .control .«instruction_address»; phase = h .result; text = x .result }) (arraysOf (record { start = a .s .«trace_start»; len = a .s .«trace_len» }) (now (a .texts)) (now (a .numbers)) (now (a .addresses)) (now (a .phases)) (now (a .lengths))) (q .ensures) (text-field (f .tick) g (f .ir) (x .ensures)) (short-text (f .tick) g (f .ir) (x .ensures)) (s .pre .1 .trace) in (
+      is-tick v (o .result) (x .result) (h .result) (t .result) (o .ensures) (t .ensures) (k .result) (x .ensures) (h .ensures) (k .ensures) (m .ensures) (w .ensures) (z .0) (y .0),
       is-done v (o .result) (x .result) (h .result) (t .result) (o .ensures) (t .ensures) (c .is-fault .ensures),
-      record { control = ap lawful e ∙ n .machine; touched = u .ensures .1; trace = q .ensures .1 },
-      λ z. ap (λ (y : Tick). y .state .control .halted) (t .ensures) ∙ n .goes (λ y. z (ap (λ (b : Tick). b .state .control .tick) (t .ensures) ∙ y)) .1,
+      record { control = ap lawful e ∙ n .machine; touched = y .1; trace = z .1 },
+      λ p. ap (λ (y : Tick). y .state .control .halted) (t .ensures) ∙ n .goes (λ y. p (ap (λ (b : Tick). b .state .control .tick) (t .ensures) ∙ y)) .1,
     )
 
 pub tick-parts-spec : {M : Type 1} → statement M

@@ -1,0 +1,67 @@
+//! The report call: a guarded run and its report, from the report program's
+//! input. The original has no such call; beside it stand its plain `run` on the
+//! same program, and its disassembly of 256 words.
+
+use crate::machine::{run, BUDGET, RUN_ROUNDS};
+use crate::{medians, ROUNDS};
+use oracle::disasm;
+use oracle::guarded::Input;
+use oracle::report_program;
+use std::hint::black_box;
+
+const REPORT: usize = 33_930;
+const MEMORY: usize = 256;
+
+/// What the report program reads for an image without hidden words.
+fn input(words: &[u16], budget: u64) -> Vec<u8> {
+    report_program::bytes(&Input {
+        image: words.to_vec(),
+        marks: vec![0; MEMORY],
+        budget,
+        breakpoints: Vec::new(),
+    })
+}
+
+/// Times mean nothing where the two sides do not do the same.
+pub fn agree(programs: &[Vec<u16>]) {
+    let mut out = [0; REPORT];
+    for words in programs.iter().map(Vec::as_slice).chain([&[][..]]) {
+        for budget in [0, 1, 7, 1_000] {
+            let bytes = input(words, budget);
+            let length = archive::report(&bytes, &mut out) as usize;
+            assert_eq!(out[..length], *report_program::answer(&bytes));
+        }
+    }
+}
+
+/// A run and its report, beside the original's plain run.
+pub fn whole(programs: &[Vec<u16>]) -> (f64, f64) {
+    let inputs: Vec<Vec<u8>> = programs.iter().map(|words| input(words, BUDGET)).collect();
+    let mut out = [0; REPORT];
+    let mut rust = || {
+        for words in programs {
+            black_box(run(black_box(words), BUDGET));
+        }
+    };
+    let mut ours = || {
+        for bytes in &inputs {
+            black_box(archive::report(black_box(bytes), black_box(&mut out)));
+        }
+    };
+    medians(RUN_ROUNDS, programs.len(), &mut rust, &mut ours)
+}
+
+/// The report of an empty image, beside the original's texts of 256 words.
+pub fn empty(words: &[u16]) -> (f64, f64) {
+    let bytes = input(&[], 1);
+    let mut out = [0; REPORT];
+    let mut rust = || {
+        for word in words {
+            black_box(disasm::disassemble(black_box(*word)));
+        }
+    };
+    let mut ours = || {
+        black_box(archive::report(black_box(&bytes), black_box(&mut out)));
+    };
+    medians(ROUNDS, 1, &mut rust, &mut ours)
+}

@@ -1,0 +1,2 @@
+-- `Lines` has the laws of a refusal's line.
+pub mod Lines

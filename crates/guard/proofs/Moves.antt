@@ -1,0 +1,62 @@
+-- The marks of an instruction in one form.
+-- Assumes nothing.
+use Prim.Native.Nat.{ℕ, _<_}
+use mathlib.Core.Path.{_≡_, ap, sym, _∙_}
+use mathlib.Core.Bool.{Bool, true, false, cond}
+use mathlib.Core.List.{List}
+use lib.ListN.{getD, set}
+use lib.Seq.{set-getD}
+use Rattle.isa.specs.declared.opcode.Opcode.the-variants.{LoadImmediate, LoadRegister, LoadMemory, StoreMemory, Add, Negate, ShiftRight, ShiftLeft, And, Or, Xor, Jump, Halt}
+use Rattle.isa.specs.declared.opcode.Decoded.{Decoded}
+use Rattle.isa.specs.declared.opcode.Decoded.the-variants.{Known, Unknown}
+use Rattle.isa.specs.Word.{decodeWord, digitX, digitY, digitZ, byteYZ}
+use Rattle.guard.specs.declared.marks.Moved.{Moved}
+use Rattle.guard.specs.Marks.{Marks, joinedYZ, executedMarks, instructionMarks, moves}
+
+-- a register and the word at yz get a mark, and MDR
+abbrev markedBy : ℕ → Moved → List ℕ → List ℕ → Marks
+markedBy w v m r = record { memory = set m (byteYZ w) (v .2); registers = set r (cond (v .0) (digitY w) (digitX w)) (v .1); mdr = v .3 }
+
+module _ (w : ℕ) (m r : List ℕ) where
+  abbrev start : Marks
+  start = record { memory = m; registers = r; mdr = 0 }
+
+  abbrev moveOf : Decoded → Moved
+  moveOf d = moves d (getD r (digitX w) 0) (getD r (digitY w) 0) (getD r (digitZ w) 0) (joinedYZ w start) (getD m (byteYZ w) 0)
+
+  -- the word keeps its mark
+  kept : (i n q : ℕ) → _≡_ {A = Marks} (record { memory = m; registers = set r i n; mdr = q }) (record { memory = set m (byteYZ w) (getD m (byteYZ w) 0); registers = set r i n; mdr = q })
+  kept i n q = λ k. record { memory = sym (set-getD m (byteYZ w) 0) k; registers = set r i n; mdr = q }
+
+  -- nothing moves
+  still : start ≡ record { memory = set m (byteYZ w) (getD m (byteYZ w) 0); registers = set r (digitX w) (getD r (digitX w) 0); mdr = 0 }
+  still = λ k. record { memory = sym (set-getD m (byteYZ w) 0) k; registers = sym (set-getD r (digitX w) 0) k; mdr = 0 }
+
+  executed : (d : Decoded) → executedMarks d w start ≡ markedBy w (moveOf d) m r
+  executed (Known LoadImmediate) = kept (digitX w) 0 0
+  executed (Known LoadRegister) = kept (digitY w) (getD r (digitZ w) 0) 0
+  executed (Known LoadMemory) = kept (digitX w) (getD m (byteYZ w) 0) (getD m (byteYZ w) 0)
+  executed (Known StoreMemory) = λ k. record { memory = set m (byteYZ w) (getD r (digitX w) 0); registers = sym (set-getD r (digitX w) 0) k; mdr = getD r (digitX w) 0 }
+  executed (Known Add) = kept (digitX w) (joinedYZ w start) 0
+  executed (Known Negate) = kept (digitY w) (getD r (digitY w) 0) 0
+  executed (Known ShiftRight) = kept (digitX w) (getD r (digitX w) 0) 0
+  executed (Known ShiftLeft) = kept (digitX w) (getD r (digitX w) 0) 0
+  executed (Known And) = kept (digitX w) (joinedYZ w start) 0
+  executed (Known Or) = kept (digitX w) (joinedYZ w start) 0
+  executed (Known Xor) = kept (digitX w) (joinedYZ w start) 0
+  executed (Known Jump) = still
+  executed (Known Halt) = still
+  executed Unknown = still
+
+  -- whatever MDR's mark was; by what the code finds: the opcode, the marks joined, what moves, the register
+  pub marks-moved : (q : ℕ) {d : Decoded} {j t : ℕ} {v : Moved} → d ≡ decodeWord w → j ≡ joinedYZ w start → v ≡ moves d (getD r (digitX w) 0) (getD r (digitY w) 0) (getD r (digitZ w) 0) j (getD m (byteYZ w) 0) → t ≡ cond (v .0) (digitY w) (digitX w)
+      → record { memory = set m (byteYZ w) (v .2); registers = set r t (v .1); mdr = v .3 } ≡ instructionMarks w (record { memory = m; registers = r; mdr = q })
+  unfolding instructionMarks
+  marks-moved q {v = v} d j e t =
+      (λ i. record { memory = set m (byteYZ w) (v .2); registers = set r (t i) (v .1); mdr = v .3 })
+      ∙ ap (λ (x : Moved). markedBy w x m r) (e ∙ (λ i. moves (d i) (getD r (digitX w) 0) (getD r (digitY w) 0) (getD r (digitZ w) 0) (j i) (getD m (byteYZ w) 0)))
+      ∙ sym (executed (decodeWord w))
+
+pub pick-below : (second : Bool) (n : ℕ) {a b : ℕ} → a < n → b < n → cond second b a < n
+pick-below true n p q = q
+pick-below false n p q = p

@@ -1,0 +1,200 @@
+// What is tested before each instruction of a run, and of a guarded run.
+ghost use mathlib.Core.Path.{_≡_};
+ghost use Prim.Native.Nat.{_-_};
+ghost use lib.Dec.{eqb};
+ghost use Rattle.tick.specs.Count.{overCounted};
+ghost use Rattle.guard.specs.Marks.{marked};
+ghost use Rattle.guard.specs.Stops.{reached, haltStop, verdictIf, runVerdictOf, stopNumber, haltedStop, isJump, hiddenJump, guardIf, verdictOf};
+use encoding::contains;
+use isa::Decoded;
+use isa::Instruction;
+use isa::Opcode;
+use tick::Counters;
+use tick::Fault;
+use tick::State;
+use tick::is_over_counted;
+
+// Why the machine stopped running. `Refused` has the refusal's number, and stands for no stop.
+pub enum RunStop {
+    Halted,
+    Breakpoint(u8),
+    Fault,
+    Budget,
+    AlreadyHalted,
+    Refused(u8),
+}
+
+// A breakpoint, never before the first instruction.
+fn at_break(breakpoints: &[u8], begun: u64, pc: u8) -> bool
+    ensures { λ r. ⌜ r ≡ reached (now (breakpoints .entry)) begun pc ⌝ }
+{
+    if begun == 0 {
+        return false;
+    }
+    contains(breakpoints, pc)
+}
+
+fn halt_stop(fault: Fault) -> RunStop
+    ensures { λ r. ⌜ r ≡ haltStop fault ⌝ }
+{
+    match fault {
+        Fault::Healthy => RunStop::Halted,
+        Fault::UnknownInstruction { .. } => RunStop::Fault,
+        Fault::StepBudgetExhausted { .. } => RunStop::Fault,
+    }
+}
+
+// Whether a run begins the next instruction, or why not.
+pub enum RunVerdict {
+    Go,
+    Stop(RunStop),
+}
+
+// The four tests before an instruction.
+pub fn run_verdict(
+    state: State,
+    counters: Counters,
+    breakpoints: &[u8],
+    begun: u64,
+    limit: u64,
+) -> RunVerdict
+    ensures { λ r. ⌜ runVerdictOf r ≡ verdictIf (state .control .halted) (reached (now (breakpoints .entry)) begun (state .control .pc)) (eqb (limit - begun) 0) (overCounted counters) state ⌝ }
+{
+    if state.control.halted {
+        let fault = state.fault;
+        let stop = halt_stop(fault);
+        return RunVerdict::Stop(stop);
+    }
+    let pc = state.control.pc;
+    let broken = at_break(breakpoints, begun, pc);
+    if broken {
+        return RunVerdict::Stop(RunStop::Breakpoint(pc));
+    }
+    if limit <= begun {
+        return RunVerdict::Stop(RunStop::Budget);
+    }
+    let over = is_over_counted(counters);
+    if over {
+        return RunVerdict::Stop(RunStop::Refused(9));
+    }
+    RunVerdict::Go
+}
+
+// Why a guarded run stopped.
+pub enum GuardedStop {
+    Halted,
+    Breakpoint,
+    Fault,
+    Budget,
+    HiddenWord,
+    HiddenJump,
+}
+
+impl GuardedStop {
+    // The number that a report has.
+    pub fn number(self) -> u8
+        ensures { λ r. ⌜ r ≡ stopNumber self ⌝ }
+    {
+        match self {
+            GuardedStop::Halted => 0,
+            GuardedStop::Breakpoint => 1,
+            GuardedStop::Fault => 2,
+            GuardedStop::Budget => 3,
+            GuardedStop::HiddenWord => 4,
+            GuardedStop::HiddenJump => 5,
+        }
+    }
+}
+
+fn halted_stop(fault: Fault) -> GuardedStop
+    ensures { λ r. ⌜ r ≡ haltedStop fault ⌝ }
+{
+    match fault {
+        Fault::Healthy => GuardedStop::Halted,
+        Fault::UnknownInstruction { .. } => GuardedStop::Fault,
+        Fault::StepBudgetExhausted { .. } => GuardedStop::Fault,
+    }
+}
+
+fn is_jump(decoded: Decoded) -> bool
+    ensures { λ r. ⌜ r ≡ isJump decoded ⌝ }
+{
+    let Decoded::Known(opcode) = decoded else {
+        return false;
+    };
+    match opcode {
+        Opcode::LoadImmediate => false,
+        Opcode::LoadRegister => false,
+        Opcode::LoadMemory => false,
+        Opcode::StoreMemory => false,
+        Opcode::Add => false,
+        Opcode::Negate => false,
+        Opcode::ShiftRight => false,
+        Opcode::ShiftLeft => false,
+        Opcode::And => false,
+        Opcode::Or => false,
+        Opcode::Xor => false,
+        Opcode::Jump => true,
+        Opcode::Halt => false,
+    }
+}
+
+// Whether the word is a jump that would test a hidden register; one on R0 tests none.
+pub fn hidden_jump(word: u16, registers: &[u8; 16]) -> bool
+    ensures { λ r. ⌜ r ≡ hiddenJump marked word (now (registers .entry)) ⌝ }
+{
+    let i = Instruction::from_word(word);
+    let decoded = i.opcode();
+    let jump = is_jump(decoded);
+    if !jump {
+        return false;
+    }
+    let x = (word / 256 % 16) as usize;
+    if x == 0 {
+        return false;
+    }
+    if registers[x] != 0 {
+        return true;
+    }
+    registers[0] != 0
+}
+
+// Whether a guarded run begins the next instruction, or why not.
+pub enum Verdict {
+    Go,
+    Stop(GuardedStop),
+}
+
+// The five tests before an instruction: its word, that word's mark, the marks of the registers.
+pub fn judge(
+    state: State,
+    breakpoints: &[u8],
+    begun: u64,
+    budget: u64,
+    word: u16,
+    mark: u8,
+    registers: &[u8; 16],
+) -> Verdict
+    ensures { λ r. ⌜ verdictOf r ≡ guardIf (state .control .halted) (reached (now (breakpoints .entry)) begun (state .control .pc)) (eqb (budget - begun) 0) (marked mark) (hiddenJump marked word (now (registers .entry))) (state .fault) ⌝ }
+{
+    if state.control.halted {
+        let fault = state.fault;
+        let stop = halted_stop(fault);
+        return Verdict::Stop(stop);
+    }
+    let broken = at_break(breakpoints, begun, state.control.pc);
+    if broken {
+        return Verdict::Stop(GuardedStop::Breakpoint);
+    }
+    if budget <= begun {
+        return Verdict::Stop(GuardedStop::Budget);
+    }
+    if mark != 0 {
+        return Verdict::Stop(GuardedStop::HiddenWord);
+    }
+    let hidden = hidden_jump(word, registers);
+    if hidden {
+        return Verdict::Stop(GuardedStop::HiddenJump);
+    }
+    Verdict::Go
+}

@@ -1,0 +1,211 @@
+-- The laws of whole listings: the head, the length, and the answers.
+-- Assumes nothing.
+use Prim.Native.Nat.{ℕ, _+_, _*_, _/_, _%_, _≤_, _<_}
+use native.Mathlib.Omega.{arith}
+use mathlib.Core.Bool.{Bool, true, false, cond}
+use mathlib.Core.Path.{_≡_, refl, ap, _∙_}
+use mathlib.Core.List.{List, [], _∷_, _++_}
+use borrow.Author.Tests.{eqb-true, eq-eqb, ne-eqb, lt-ltb, le-ltb, le-leb, ltb-false}
+use lib.Dec.{eqb, ltb, lit≤}
+use lib.ListN.{length, take, drop, length-append}
+use lib.Seq.{length-take-le, take-at}
+use Rattle.isa.specs.declared.text.Text.{Text}
+use Rattle.isa.specs.Text.{text, textOf}
+use Rattle.isa.proofs.Texts.{textOf-text}
+use Rattle.encoding.specs.Bytes.{over, written, eachFrom, numbers, readWords}
+use Rattle.encoding.proofs.Written.{length-over, over-over, written-fits, overs-eq, length-each}
+use Rattle.encoding.proofs.Numbers.{length-numbers}
+use Rattle.listing.specs.declared.Listed.the-variants.{Written, Refused}
+use Rattle.listing.specs.Listing.{lineOf, decimal, wordsText, headStart, headEnd, headLength, headOf, listingOf, listingLength, outcome, unlessRefused, listingOutcome, bytesOutcome}
+use Rattle.listing.proofs.Lines.{text-length, length-line-of}
+
+-- ---- the head
+
+length-of-cond : (b : Bool) (x y : List ℕ) → length (cond b x y) ≡ cond b (length x) (length y)
+length-of-cond true x y = refl
+length-of-cond false x y = refl
+
+decimal-length : (n : ℕ) → length (decimal n) ≡ cond (ltb n 10) 1 (cond (ltb n 100) 2 3)
+unfolding decimal
+decimal-length n = length-of-cond (ltb n 10) _ _ ∙ ap (cond (ltb n 10) 1) (length-of-cond (ltb n 100) _ _)
+
+words-length : (n : ℕ) → length (wordsText n) ≡ cond (eqb n 1) 23 24
+unfolding wordsText
+words-length n = length-of-cond (eqb n 1) _ _
+
+-- the parts' lengths add up
+head-sum : (n : ℕ) → 20 + (length (decimal n) + (length (wordsText n) + 142)) ≡ headLength n
+head-sum n = rw (decimal-length, words-length) (go (eqb n 1) refl)
+  where
+    tens : (a b : Bool) → 20 + (cond a 1 (cond b 2 3) + (24 + 142)) ≡ cond a 187 (cond b 188 189)
+    tens true b = refl
+    tens false true = refl
+    tens false false = refl
+
+    go : (b : Bool) → eqb n 1 ≡ b → 20 + (cond (ltb n 10) 1 (cond (ltb n 100) 2 3) + (cond b 23 24 + 142)) ≡ cond b 186 (cond (ltb n 10) 187 (cond (ltb n 100) 188 189))
+    go true e = rw (eqb-true n 1 e)
+    go false e = tens (ltb n 10) (ltb n 100)
+
+start-length : length headStart ≡ 20
+unfolding headStart
+start-length = refl
+
+end-length : length headEnd ≡ 142
+unfolding headEnd
+end-length = refl
+
+pub length-head : (n : ℕ) → length (headOf n) ≡ headLength n
+unfolding headOf
+length-head n =
+    let a : length headStart ≡ 20 = start-length in
+    let b : length headEnd ≡ 142 = end-length in
+    let s : 20 + (length (decimal n) + (length (wordsText n) + 142)) ≡ headLength n = head-sum n in
+    simp length-append (omega arith)
+
+pub head-at-least : (n : ℕ) → 186 ≤ headLength n
+head-at-least n = go (eqb n 1) (ltb n 10) (ltb n 100)
+  where
+    go : (a b c : Bool) → 186 ≤ cond a 186 (cond b 187 (cond c 188 189))
+    go true b c = lit≤ tt
+    go false true c = lit≤ tt
+    go false false true = lit≤ tt
+    go false false false = lit≤ tt
+
+pub decimal-short : (n : ℕ) → length (decimal n) ≤ 3
+decimal-short n = rw decimal-length (go (ltb n 10) (ltb n 100))
+  where
+    go : (a b : Bool) → cond a 1 (cond b 2 3) ≤ 3
+    go true b = lit≤ tt
+    go false true = lit≤ tt
+    go false false = lit≤ tt
+
+pub words-short : (n : ℕ) → length (wordsText n) ≤ 24
+words-short n = rw words-length (go (eqb n 1))
+  where
+    go : (b : Bool) → cond b 23 24 ≤ 24
+    go true = lit≤ tt
+    go false = lit≤ tt
+
+-- what the four calls leave
+pub head-over : (d : List ℕ) (n : ℕ) {t u : Text} {p q : ℕ} {o₁ o₂ o₃ o₄ : List ℕ} → headLength n ≤ length d
+    → t ≡ text (decimal n) → u ≡ text (wordsText n)
+    → o₁ ≡ written d 0 headStart → (p ≡ 20 + t .len) × (o₂ ≡ over o₁ 20 (textOf t)) → (q ≡ p + u .len) × (o₃ ≡ over o₂ p (textOf u)) → o₄ ≡ written o₃ q headEnd
+    → (q + 142 ≡ headLength n) × (o₄ ≡ over d 0 (headOf n))
+unfolding headOf
+head-over d n {t} {u} {p} {q} {o₁} {o₂} {o₃} {o₄} h e f c₁ c₂ c₃ c₄ =
+    let a : length headStart ≡ 20 = start-length in
+    let b : length headEnd ≡ 142 = end-length in
+    let s : 20 + (length (decimal n) + (length (wordsText n) + 142)) ≡ headLength n = head-sum n in
+    let l : t .len ≡ length (decimal n) = text-length (decimal n) e in
+    let m : u .len ≡ length (wordsText n) = text-length (wordsText n) f in
+    let x = length (decimal n) in
+    let y = length (wordsText n) in
+    let p₁ : o₁ ≡ over d 0 headStart = c₁ ∙ written-fits d 0 headStart (omega arith) in
+    let l₁ : length o₁ ≡ length d = ap length p₁ ∙ length-over d 0 headStart (omega arith) in
+    let p₂ : o₂ ≡ over o₁ 20 (decimal n) = c₂ .1 ∙ ap (over o₁ 20) (ap textOf e ∙ textOf-text (decimal n)) in
+    let l₂ : length o₂ ≡ length d = ap length p₂ ∙ length-over o₁ 20 (decimal n) (omega arith) ∙ l₁ in
+    let p₃ : o₃ ≡ over o₂ (20 + x) (wordsText n) = c₃ .1 ∙ rw (c₂ .0, l) (ap (over o₂ (20 + x)) (ap textOf f ∙ textOf-text (wordsText n))) in
+    let l₃ : length o₃ ≡ length d = ap length p₃ ∙ length-over o₂ (20 + x) (wordsText n) (omega arith) ∙ l₂ in
+    let k : q ≡ 20 + x + y = omega arith in
+    let p₄ : o₄ ≡ over o₃ (20 + x + y) headEnd = c₄ ∙ rw k (written-fits o₃ (20 + x + y) headEnd (omega arith)) in
+    let w : over (over (over (over d 0 headStart) 20 (decimal n)) (20 + x) (wordsText n)) (20 + x + y) headEnd ≡ over d 0 (headStart ++ (decimal n ++ (wordsText n ++ headEnd))) =
+    overs-eq d 0 ((20, headStart) ∷ (x, decimal n) ∷ (y, wordsText n) ∷ (142, headEnd) ∷ []) (a, (refl, (refl, (b, tt)))) (omega arith) in
+    (omega arith, rw (p₄, p₃, p₂, p₁) w)
+
+-- ---- the length
+
+pub length-listing : (ws : List ℕ) → length (listingOf ws) ≡ listingLength (length ws)
+unfolding listingOf
+length-listing ws =
+    length-append (headOf (length ws)) (eachFrom (lineOf ws) 0 (length ws))
+    ∙ rw (length-head, length-each 45 (lineOf ws) 0 (length ws) (length-line-of ws))
+
+-- the longest listing is that of 256 words
+pub longest : listingLength 256 ≡ 11709
+longest = refl
+
+head-at-most : (a b c : Bool) → cond a 186 (cond b 187 (cond c 188 189)) ≤ 189
+head-at-most true b c = lit≤ tt
+head-at-most false true c = lit≤ tt
+head-at-most false false true = lit≤ tt
+head-at-most false false false = lit≤ tt
+
+pub listing-at-most : (n : ℕ) → n ≤ 256 → listingLength n ≤ 11709
+listing-at-most n h =
+    let k : headLength n ≤ 189 = head-at-most (eqb n 1) (ltb n 10) (ltb n 100) in
+    omega arith
+
+-- ---- the answers
+
+module _ (ws out : List ℕ) where
+  pub refused-1 : 256 < length ws → outcome (Refused 1) out ≡ listingOutcome ws out
+  unfolding listingOutcome
+  refused-1 h = simp (lt-ltb 256 (length ws) h)
+
+  pub refused-5 : {size : ℕ} → length ws ≤ 256 → size ≡ listingLength (length ws) → length out < size → outcome (Refused 5) out ≡ listingOutcome ws out
+  unfolding listingOutcome
+  refused-5 g e h = simp (le-ltb 256 (length ws) g, lt-ltb (length out) (listingLength (length ws)) (rw e at h))
+
+  served : length ws ≤ 256 → listingLength (length ws) ≤ length out → outcome (Written (listingLength (length ws))) (over out 0 (listingOf ws)) ≡ listingOutcome ws out
+  unfolding listingOutcome
+  served g h = simp (le-ltb 256 (length ws) g, le-ltb (length out) (listingLength (length ws)) h)
+
+  -- the head, and the lines right behind it
+  pub whole : {size at : ℕ} {o₁ o₂ : List ℕ} → length ws ≤ 256 → size ≡ listingLength (length ws) → size ≤ length out
+      → (at ≡ headLength (length ws)) × (o₁ ≡ over out 0 (headOf (length ws))) → o₂ ≡ over o₁ at (eachFrom (lineOf ws) 0 (length ws))
+      → outcome (Written size) o₂ ≡ listingOutcome ws out
+  unfolding listingOf
+  whole {size} {at} {o₁} {o₂} g e h c₁ c₂ =
+      let l : length (headOf (length ws)) ≡ headLength (length ws) = length-head (length ws) in
+      let p : o₂ ≡ over out 0 (headOf (length ws) ++ eachFrom (lineOf ws) 0 (length ws)) =
+      c₂ ∙ rw (c₁ .1) (over-over out 0 (headOf (length ws)) (eachFrom (lineOf ws) 0 (length ws)) at (omega (arith, c₁ .0)) (omega (arith, c₁ .0))) in
+      (λ i. outcome (Written (e i)) (p i)) ∙ served g (omega arith)
+
+-- ---- words in bytes
+
+-- as many words as the bytes have
+pub words-read : (image zs : List ℕ) {ws : List ℕ} → length image / 2 ≤ length zs → ws ≡ readWords image 0 (take (length image / 2) zs) → ws ≡ numbers 2 (length image / 2) image
+unfolding readWords
+words-read image zs h e =
+    let l : length (take (length image / 2) zs) ≡ length image / 2 = length-take-le (length image / 2) zs h in
+    e ∙ rw l (simp (le-leb (0 + 2 * (length image / 2)) (length image) (omega arith)))
+
+-- a front part that was lent has come back
+pub part-back : (n : ℕ) (zs ws : List ℕ) → length ws ≡ n → take n (ws ++ drop n zs) ≡ ws
+part-back n zs ws e = take-at ws (drop n zs) n e
+
+module _ (image out : List ℕ) where
+  pub bytes-1 : 256 < length image / 2 → outcome (Refused 1) out ≡ bytesOutcome image out
+  unfolding bytesOutcome
+  bytes-1 h = simp (lt-ltb 256 (length image / 2) h)
+
+  pub bytes-5 : {size : ℕ} → length image / 2 ≤ 256 → size ≡ listingLength (length image / 2) → length out < size → outcome (Refused 5) out ≡ bytesOutcome image out
+  unfolding bytesOutcome
+  bytes-5 g e h = simp (le-ltb 256 (length image / 2) g, lt-ltb (length out) (listingLength (length image / 2)) (rw e at h))
+
+  pub bytes-6 : {size : ℕ} → length image / 2 ≤ 256 → size ≡ listingLength (length image / 2) → size ≤ length out → (length image % 2 ≡ 0 → ⊥) → outcome (Refused 6) out ≡ bytesOutcome image out
+  unfolding bytesOutcome
+  bytes-6 g e h k = simp (le-ltb 256 (length image / 2) g, le-ltb (length out) (listingLength (length image / 2)) (rw e at h), ne-eqb (length image % 2) 0 k)
+
+  pub bytes-listed : {size : ℕ} → length image / 2 ≤ 256 → size ≡ listingLength (length image / 2) → size ≤ length out → length image % 2 ≡ 0
+      → listingOutcome (numbers 2 (length image / 2) image) out ≡ bytesOutcome image out
+  unfolding listingOutcome bytesOutcome
+  bytes-listed g e h k =
+      rw (length-numbers 2 (length image / 2) image)
+      (simp (le-ltb 256 (length image / 2) g, le-ltb (length out) (listingLength (length image / 2)) (rw e at h), eq-eqb (length image % 2) 0 k))
+
+-- a length that is answered is that of a listing of at most 256 words
+module _ (image out : List ℕ) {n : ℕ} where
+  answered : (a b e : Bool) → ltb 256 (length image / 2) ≡ a
+      → unlessRefused (cond (eqb (cond a 1 (cond b 5 0)) 0) (cond e 0 6) (cond a 1 (cond b 5 0))) out (outcome (Written (listingLength (length image / 2))) (over out 0 (listingOf (numbers 2 (length image / 2) image)))) .answer ≡ Written n
+      → n ≤ 11709
+  answered true b e q h = let z : _≡_ {A = ℕ} 0 1 = cc in omega arith
+  answered false true e q h = let z : _≡_ {A = ℕ} 0 1 = cc in omega arith
+  answered false false false q h = let z : _≡_ {A = ℕ} 0 1 = cc in omega arith
+  answered false false true q h =
+      let same : listingLength (length image / 2) ≡ n = cc in
+      rw same at (listing-at-most (length image / 2) (ltb-false 256 (length image / 2) q))
+
+  pub bytes-at-most : bytesOutcome image out .answer ≡ Written n → n ≤ 11709
+  unfolding bytesOutcome
+  bytes-at-most h = answered (ltb 256 (length image / 2)) (ltb (length out) (listingLength (length image / 2))) (eqb (length image % 2) 0) refl h

@@ -1,0 +1,157 @@
+-- The listing of a program image (01, section 7; disasm.rs, `disassemble_image`): a head, then a line of 45 bytes for each word.
+-- Assumes nothing.
+use Prim.Native.Nat.{ℕ, zero, suc, _+_, _*_, _/_, _%_}
+use Prim.Native.Char.{code}
+use Prim.Native.String.{String}
+use mathlib.Core.Bool.{Bool, true, false, cond}
+use mathlib.Core.List.{List, [], _∷_, _++_}
+use lib.Dec.{eqb, ltb}
+use lib.ListN.{length, getD}
+use Rattle.isa.specs.declared.opcode.Opcode.the-variants.{LoadImmediate, LoadRegister, LoadMemory, StoreMemory, Add, Negate, ShiftRight, ShiftLeft, And, Or, Xor, Jump, Halt}
+use Rattle.isa.specs.declared.opcode.Decoded.{Decoded}
+use Rattle.isa.specs.declared.opcode.Decoded.the-variants.{Known, Unknown}
+use Rattle.isa.specs.Text.{ascii, spaced}
+use Rattle.isa.specs.Word.{byteYZ, decodeWord}
+use Rattle.isa.specs.Format.{fill}
+use Rattle.encoding.specs.Bytes.{over, eachFrom, numbers}
+use Rattle.disasm.specs.Disassembly.{template}
+use Rattle.listing.specs.declared.Listed.{Listed}
+use Rattle.listing.specs.declared.Listed.the-variants.{Written, Refused}
+
+-- JUMP, LOAD from memory and STORE refer to the address yz
+abbrev pub refers : Decoded → Bool
+refers (Known LoadImmediate) = false
+refers (Known LoadRegister) = false
+refers (Known LoadMemory) = true
+refers (Known StoreMemory) = true
+refers (Known Add) = false
+refers (Known Negate) = false
+refers (Known ShiftRight) = false
+refers (Known ShiftLeft) = false
+refers (Known And) = false
+refers (Known Or) = false
+refers (Known Xor) = false
+refers (Known Jump) = true
+refers (Known Halt) = false
+refers Unknown = false
+
+-- the word w refers to address a
+abbrev pub refersTo : ℕ → ℕ → Bool
+refersTo w a = cond (refers (decodeWord w)) (eqb (byteYZ w) a) false
+
+-- one of the words does
+unfoldable pub referenced : List ℕ → ℕ → Bool
+referenced [] a = false
+referenced (w ∷ ws) a = cond (refersTo w a) true (referenced ws a)
+
+-- the addresses with a label: 0, and each that a word refers to
+unfoldable pub labelled : List ℕ → ℕ → Bool
+labelled ws a = cond (eqb a 0) true (referenced ws a)
+
+-- the text of a word that refers to no address: a word without an opcode is data
+unfoldable pub otherTemplate : Decoded → String
+otherTemplate Unknown = ".word Wxyz"
+otherTemplate (Known o) = template (Known o)
+
+unfoldable pub otherText : ℕ → List ℕ
+otherText w = fill w (ascii (otherTemplate (decodeWord w)))
+
+-- the text of a word: a reference inside the image is a label
+unfoldable pub listingTemplate : Bool → Decoded → String
+listingTemplate inside (Known LoadImmediate) = otherTemplate (Known LoadImmediate)
+listingTemplate inside (Known LoadRegister) = otherTemplate (Known LoadRegister)
+listingTemplate inside (Known LoadMemory) = cond inside "LOAD  Rx, [Lyz]" "LOAD  Rx, [yz]"
+listingTemplate inside (Known StoreMemory) = cond inside "STORE Rx, [Lyz]" "STORE Rx, [yz]"
+listingTemplate inside (Known Add) = otherTemplate (Known Add)
+listingTemplate inside (Known Negate) = otherTemplate (Known Negate)
+listingTemplate inside (Known ShiftRight) = otherTemplate (Known ShiftRight)
+listingTemplate inside (Known ShiftLeft) = otherTemplate (Known ShiftLeft)
+listingTemplate inside (Known And) = otherTemplate (Known And)
+listingTemplate inside (Known Or) = otherTemplate (Known Or)
+listingTemplate inside (Known Xor) = otherTemplate (Known Xor)
+listingTemplate inside (Known Jump) = cond inside "JUMP  [Lyz] IF Rx=R0" "JUMP  [yz] IF Rx=R0"
+listingTemplate inside (Known Halt) = otherTemplate (Known Halt)
+listingTemplate inside Unknown = otherTemplate Unknown
+
+-- the same in an image of n words
+unfoldable pub listingText : ℕ → ℕ → List ℕ
+listingText n w = fill w (ascii (listingTemplate (ltb (byteYZ w) n) (decodeWord w)))
+
+unfoldable pub labelText : Bool → ℕ → List ℕ
+labelText true a = fill a (ascii "Lyz:")
+labelText false a = []
+
+-- a line, in an image of n words, for word w at address a, with a label or without: label in 8 columns, text in 26, then address and word
+unfoldable pub lineFront : ℕ → Bool → ℕ → ℕ → List ℕ
+lineFront n on a w = spaced 8 (labelText on a) ++ spaced 26 (listingText n w)
+
+unfoldable pub lineBack : ℕ → ℕ → List ℕ
+lineBack a w = fill a (ascii "; yz  ") ++ fill w (ascii "Wxyz\n")
+
+unfoldable pub line : ℕ → Bool → ℕ → ℕ → List ℕ
+line n on a w = lineFront n on a w ++ lineBack a w
+
+unfoldable pub lineOf : List ℕ → ℕ → List ℕ
+lineOf ws a = line (length ws) (labelled ws a) a (getD ws a 0)
+
+-- a number below 1,000 in decimal
+unfoldable pub decimal : ℕ → List ℕ
+decimal n =
+    cond (ltb n 10) ((code "0" + n) ∷ [])
+    (cond (ltb n 100) ((code "0" + n / 10) ∷ (code "0" + n % 10) ∷ [])
+    ((code "0" + n / 100) ∷ (code "0" + n / 10 % 10) ∷ (code "0" + n % 10) ∷ []))
+
+unfoldable pub wordsText : ℕ → List ℕ
+wordsText n = cond (eqb n 1) (ascii " word of machine code.\n") (ascii " words of machine code.\n")
+
+unfoldable pub headStart : List ℕ
+headStart = ascii "; Disassembled from "
+
+unfoldable pub headEnd : List ℕ
+headEnd = ascii "; Labels were generated for the addresses this program refers to.\n; Edit this assembly and press Assemble to build a new machine code image.\n\n"
+
+-- the head of a listing of n words
+unfoldable pub headOf : ℕ → List ℕ
+headOf n = headStart ++ (decimal n ++ (wordsText n ++ headEnd))
+
+unfoldable pub listingOf : List ℕ → List ℕ
+listingOf ws = headOf (length ws) ++ eachFrom (lineOf ws) 0 (length ws)
+
+-- the length of a head, and of a listing of n words
+abbrev pub headLength : ℕ → ℕ
+headLength n = cond (eqb n 1) 186 (cond (ltb n 10) 187 (cond (ltb n 100) 188 189))
+
+abbrev pub listingLength : ℕ → ℕ
+listingLength n = headLength n + 45 * n
+
+-- what a call answers, and the buffer that it leaves
+pub record Outcome : Type 0 where
+  pub answer : Listed
+  pub buffer : List ℕ
+
+abbrev pub outcome : Listed → List ℕ → Outcome
+outcome a b = record { answer = a; buffer = b }
+
+-- the number of the refusal and the buffer as it was; where there is none, the second
+abbrev pub unlessRefused : ℕ → List ℕ → Outcome → Outcome
+unlessRefused zero out served = served
+unlessRefused (suc n) out served = outcome (Refused (suc n)) out
+
+-- refused 1: over 256 words; 5: the buffer is shorter than the listing (01, section 1)
+abbrev pub listingRefusal : ℕ → ℕ → ℕ
+listingRefusal n room = cond (ltb 256 n) 1 (cond (ltb room (listingLength n)) 5 0)
+
+-- the listing is written from the start of the buffer, and what stands behind it is kept
+unfoldable pub listingOutcome : List ℕ → List ℕ → Outcome
+listingOutcome ws out =
+    unlessRefused (listingRefusal (length ws) (length out)) out
+    (outcome (Written (listingLength (length ws))) (over out 0 (listingOf ws)))
+
+-- the listing of words in bytes, high byte first: refused 1 by whole words, then 5, then 6 for an odd byte
+abbrev pub bytesRefusal : ℕ → ℕ → ℕ
+bytesRefusal n room = cond (eqb (listingRefusal (n / 2) room) 0) (cond (eqb (n % 2) 0) 0 6) (listingRefusal (n / 2) room)
+
+unfoldable pub bytesOutcome : List ℕ → List ℕ → Outcome
+bytesOutcome image out =
+    unlessRefused (bytesRefusal (length image) (length out)) out
+    (outcome (Written (listingLength (length image / 2))) (over out 0 (listingOf (numbers 2 (length image / 2) image))))

@@ -1,0 +1,2 @@
+-- `Plans` has the laws of `specs/Plan.antt`.
+pub mod Plans

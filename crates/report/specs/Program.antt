@@ -1,0 +1,72 @@
+-- The report program's input in bytes, numbers high byte first (01, section 6), which inputs are refused (section 1, numbers 1 to 6), and what is answered.
+-- In order: image length 2, the words 2 each, 256 marks, budget 8, breakpoint count 2, the breakpoints 1 each.
+-- Assumes nothing.
+use Prim.Native.Nat.{ℕ, _+_, _*_}
+use mathlib.Core.Bool.{Bool, cond, not, _&&_}
+use mathlib.Core.List.{List}
+use lib.Dec.{eqb, ltb}
+use lib.ListN.{length, take, drop}
+use Rattle.encoding.specs.Bytes.{within, numbers, readNumber}
+use Rattle.guard.specs.Marks.{marked}
+use Rattle.guard.specs.Input.{Input, zeroOne}
+use Rattle.report.specs.Report.{reportBytes}
+use Rattle.report.specs.Public.{reportLimit}
+use Rattle.report.specs.Outcome.{Outcome, served, unlessRefused}
+
+-- where the parts behind n words begin
+abbrev pub marksAt : ℕ → ℕ
+marksAt n = 2 + 2 * n
+
+abbrev pub budgetAt : ℕ → ℕ
+budgetAt n = marksAt n + 256
+
+abbrev pub countAt : ℕ → ℕ
+countAt n = budgetAt n + 8
+
+abbrev pub breaksAt : ℕ → ℕ
+breaksAt n = countAt n + 2
+
+-- the three numbers: one that is not wholly there reads as 0, which no test below refuses, so that it is left to 6
+abbrev pub imageLength : List ℕ → ℕ
+imageLength b = readNumber b 0 2
+
+abbrev pub budgetIn : List ℕ → ℕ
+budgetIn b = readNumber b (budgetAt (imageLength b)) 8
+
+abbrev pub breakCount : List ℕ → ℕ
+breakCount b = readNumber b (countAt (imageLength b)) 2
+
+-- the guarded run's input that the bytes are
+unfoldable pub inputOf : List ℕ → Input
+inputOf b =
+    let n = imageLength b in
+    record {
+      image = numbers 2 n (drop 2 b);
+      marks = take 256 (drop (marksAt n) b);
+      budget = budgetIn b;
+      breaks = take (breakCount b) (drop (breaksAt n) b);
+    }
+
+-- the 256 marks from index at on are wholly there, and one is not 0 or 1
+abbrev pub badMarks : List ℕ → ℕ → Bool
+badMarks b at = within b at 256 && not (zeroOne (take 256 (drop at b)))
+
+-- the first test that refuses, by its number, whatever the order of the parts; 0 for none
+-- image length, whether a mark is bad, breakpoint count, budget, length of the buffer, whether the bytes are as many as their counts say
+unfoldable pub firstRefusal : ℕ → Bool → ℕ → ℕ → ℕ → Bool → ℕ
+firstRefusal words bad count budget room whole =
+    cond (ltb 256 words) 1
+    (cond bad 2
+    (cond (ltb 256 count) 3
+    (cond (ltb 1000000 budget) 4
+    (cond (ltb room reportLimit) 5
+    (cond whole 0 6)))))
+
+-- the bytes, the length of the buffer
+unfoldable pub bytesRefusal : List ℕ → ℕ → ℕ
+bytesRefusal b room =
+    let n = imageLength b in
+    firstRefusal n (badMarks b (marksAt n)) (breakCount b) (budgetIn b) room (eqb (length b) (breaksAt n + breakCount b))
+
+unfoldable pub bytesOutcome : List ℕ → List ℕ → Outcome
+bytesOutcome b out = unlessRefused (bytesRefusal b (length out)) out (served (reportBytes marked (inputOf b)) out)

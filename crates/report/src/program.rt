@@ -1,0 +1,76 @@
+// The call for a report on the report program's input: the guarded run's input in bytes, numbers high
+// byte first. In order: image length 2, the words 2 each, 256 marks, budget 8, breakpoint count 2, the
+// breakpoints 1 each.
+ghost use mathlib.Core.Path.{_≡_};
+ghost use Prim.Native.Nat.{_+_};
+ghost use Rattle.report.specs.Outcome.{outcome};
+ghost use Rattle.report.specs.Program.{badMarks, firstRefusal, bytesOutcome};
+use crate::Reported;
+use crate::call::report;
+use encoding::get_number;
+use encoding::get_words;
+use guard::zero_one;
+
+// The 256 marks, from index `at` up to `end`, are wholly there, and one is not 0 or 1.
+fn bad_marks(input: &[u8], at: usize, end: usize) -> bool
+    requires { ⌜ end ≡ at + 256 ⌝ }
+    ensures { λ r. ⌜ r ≡ badMarks (now (input .entry)) at ⌝ }
+{
+    if input.len() < end {
+        return false;
+    }
+    let good = zero_one(&input[at..end]);
+    !good
+}
+
+// The first test that refuses, 0 for none. The tests go by their numbers, whatever the order of the
+// parts in the input.
+fn first_refusal(words: usize, bad: bool, count: usize, budget: u64, room: usize, whole: bool) -> u8
+    ensures { λ r. ⌜ r ≡ firstRefusal words bad count budget room whole ⌝ }
+{
+    if 256 < words {
+        return 1;
+    }
+    if bad {
+        return 2;
+    }
+    if 256 < count {
+        return 3;
+    }
+    if 1000000 < budget {
+        return 4;
+    }
+    if room < 33930 {
+        return 5;
+    }
+    if whole { 0 } else { 6 }
+}
+
+// The report of the input that the bytes are. A number that is not wholly there reads as 0, which no
+// test refuses but the last: so 1 to 4 are about what is there, and what is missing is left to 6.
+pub fn report_bytes(input: &[u8], out: &mut [u8]) -> Reported
+    ensures { λ r. ⌜ outcome r (now (out .exit)) ≡ bytesOutcome (now (input .entry)) (now (out .entry)) ⌝ }
+{
+    let n = get_number(input, 0, 2) as usize;
+    let marks_at = 2 + 2 * n;
+    let budget_at = marks_at + 256;
+    let count_at = budget_at + 8;
+    let breaks_at = count_at + 2;
+    let bad = bad_marks(input, marks_at, budget_at);
+    let count = get_number(input, count_at, 2) as usize;
+    let budget = get_number(input, budget_at, 8);
+    let whole = input.len() == breaks_at + count;
+    let refused = first_refusal(n, bad, count, budget, out.len(), whole);
+    if refused != 0 {
+        return Reported::Refused(refused);
+    }
+    let mut words = [0u16; 256];
+    get_words(input, 2, &mut words[..n]);
+    report(
+        &words[..n],
+        &input[marks_at..budget_at],
+        budget,
+        &input[breaks_at..],
+        out,
+    )
+}

@@ -1,0 +1,230 @@
+-- The ring of the trace: a slot that is written, and one record more.
+-- Assumes nothing.
+use Prim.Native.Nat.{ℕ, suc, zero, _≤_, _<_, _-_, _+_, _*_, _%_}
+use native.Mathlib.Omega.{arith}
+use native.Mathlib.Numerals.{add-one}
+use native.Mathlib.Decide.{decLt}
+use native.Mathlib.Nat.{zero-add, suc-add}
+use mathlib.Core.Path.{_≡_, refl, ap, sym, _∙_}
+use mathlib.Core.Bool.{Bool, true, false, cond}
+use mathlib.Core.List.{List, [], _∷_, _++_, append-assoc, append-nil}
+use borrow.Author.Tests.{lt-ltb, le-ltb}
+use lib.Dec.{ltb}
+use lib.ListN.{length, take, drop, set, length-append, length-take, length-drop, length-set, drop-of-length-le, take-append-drop}
+use lib.Seq.{drop-cons, drop-set-add, take-set-le, set-append-left, drop-set-lt, take-set-lt, take-suc-set, take-all, set-split, getD-set-same, getD-set-other, take-at, drop-at, drop-drop, take-append-le, drop-append-le, length-take-le}
+use Rattle.trace.specs.declared.records.TraceRecord.{TraceRecord}
+use Rattle.trace.specs.Trace.{pushed, slots, turn, recordAt, liveTrace, liveLengths, shortTexts, pasted, TraceFit, Arrays, live, ArraysFit, slotOf, nextRing, pushInto}
+use Rattle.trace.proofs.Lists.{pick-true}
+
+module _ {A : Type 0} where
+  pub length-slots : (n : ℕ) (f : ℕ → A) → length (slots n f) ≡ n
+  unfolding slots
+  length-slots zero f = refl
+  length-slots (suc n) f = ap suc (length-slots n (λ k. f (suc k)))
+
+  slots-same : (n : ℕ) (f g : ℕ → A) → ((j : ℕ) → j < n → f j ≡ g j) → slots n f ≡ slots n g
+  unfolding slots
+  slots-same zero f g h = refl
+  slots-same (suc n) f g h = rw (h 0 (omega arith), slots-same n (λ k. f (suc k)) (λ k. g (suc k)) (λ j b. h (suc j) (omega arith)))
+
+  -- one slot is written, and the others are kept
+  slots-set : (n k : ℕ) (f g : ℕ → A) (e : A) → k < n → g k ≡ e → ((j : ℕ) → j < n → (j ≡ k → ⊥) → g j ≡ f j) → slots n g ≡ set (slots n f) k e
+  unfolding slots
+  slots-set zero k f g e b same other = absurd (omega arith)
+  slots-set (suc n) zero f g e b same other =
+      rw (same, slots-same n (λ k. g (suc k)) (λ k. f (suc k)) (λ j h. other (suc j) (omega arith) (λ z. omega arith)))
+  slots-set (suc n) (suc k) f g e b same other =
+      rw (other 0 (omega arith) (λ z. omega arith), slots-set n k (λ j. f (suc j)) (λ j. g (suc j)) e (omega arith) same (λ j h z. other (suc j) (omega arith) (λ y. z (omega arith))))
+
+  set-append-right : (xs ys : List A) (i : ℕ) (a : A) → set (xs ++ ys) (length xs + i) a ≡ xs ++ set ys i a
+  set-append-right [] ys i a = simp zero-add
+  set-append-right (x ∷ xs) ys i a = simp (suc-add, set-append-right xs ys i a)
+
+  pub length-turn : (l : List A) (s : ℕ) → s ≤ length l → length (turn l s) ≡ length l
+  length-turn l s h = simp (length-append, length-drop, length-take) (omega arith)
+
+  -- the k-th slot from s on
+  set-turn : (l : List A) (s k : ℕ) (a : A) → s < 512 → k < 512 → length l ≡ 512 → turn (set l ((s + k) % 512) a) s ≡ set (turn l s) k a
+  set-turn l s k a hs hk e = go (decLt (s + k) 512)
+    where
+      go : Dec (s + k < 512) → turn (set l ((s + k) % 512) a) s ≡ set (turn l s) k a
+      go (yes h) =
+          let m : (s + k) % 512 ≡ s + k = omega arith in
+          let d : k < length (drop s l) = simp length-drop (omega arith) in
+          rw (m, drop-set-add, take-set-le s l (s + k) a (omega arith), set-append-left (drop s l) (take s l) k a d)
+      go (no h) =
+          let j = s + k - 512 in
+          let m : (s + k) % 512 ≡ j = omega arith in
+          let d : length (drop s l) + j ≡ k = simp length-drop (omega arith) in
+          rw (m, drop-set-lt s l j a (omega arith), take-set-lt s l j a (omega arith)) (sym (set-append-right (drop s l) (take s l) j a) ∙ ap (λ (i : ℕ). set (turn l s) i a) d)
+
+  push-room : (l : List A) (s n : ℕ) (a : A) → s < 512 → n < 512 → length l ≡ 512 → take (n + 1) (turn (set l ((s + n) % 512) a) s) ≡ take n (turn l s) ++ (a ∷ [])
+  push-room l s n a hs hn e =
+      rw (set-turn l s n a hs hn e, add-one, take-suc-set (turn l s) n a (omega (arith, length-turn l s (omega arith))))
+
+  push-full : (l : List A) (s : ℕ) (a : A) → s < 512 → length l ≡ 512 → turn (set l s a) ((s + 1) % 512) ≡ drop 1 (turn l s) ++ (a ∷ [])
+  push-full l s a hs e = go (decLt (s + 1) 512)
+    where
+      tail : drop 1 (turn l s) ≡ drop (suc s) l ++ take s l
+      tail = rw (drop-cons l s a (omega arith))
+
+      go : Dec (s + 1 < 512) → turn (set l s a) ((s + 1) % 512) ≡ drop 1 (turn l s) ++ (a ∷ [])
+      go (yes h) =
+          let m : (s + 1) % 512 ≡ suc s = omega arith in
+          rw (m, tail, drop-set-lt (suc s) l s a (omega arith), take-suc-set l s a (omega arith), append-assoc)
+      go (no h) =
+          let m : (s + 1) % 512 ≡ 0 = omega arith in
+          let z : drop (suc s) l ≡ [] = drop-of-length-le l {i = suc s} (omega arith) in
+          rw (m, tail, set-split l s a (omega arith)) (simp (z, append-nil))
+
+  module _ (l : List A) (s n : ℕ) (x : A) (long : length l ≡ 512) (hs : s < 512) where
+    pub live-length : n ≤ 512 → length (take n (turn l s)) ≡ n
+    live-length h = length-take-le n (turn l s) (omega (arith, length-turn l s (omega arith)))
+
+    -- room for one more
+    pub more : n < 512 → take (n + 1) (turn (set l ((s + n) % 512) x) s) ≡ pushed x (take n (turn l s))
+    unfolding pushed
+    more h =
+        let e : length (take n (turn l s)) < 512 = omega (arith, live-length (omega arith)) in
+        rw (lt-ltb _ _ e) (push-room l s n x hs h long)
+
+    -- the oldest goes
+    pub over : n ≡ 512 → take n (turn (set l ((s + n) % 512) x) ((s + 1) % 512)) ≡ pushed x (take n (turn l s))
+    unfolding pushed
+    over h =
+        let e : 512 ≤ length (take n (turn l s)) = omega (arith, live-length (omega arith)) in
+        let m : (s + n) % 512 ≡ s = omega arith in
+        let t : take n (turn l s) ≡ turn l s = take-all n (turn l s) (omega (arith, length-turn l s (omega arith))) in
+        let t' : take n (turn (set l s x) ((s + 1) % 512)) ≡ turn (set l s x) ((s + 1) % 512) =
+        take-all n (turn (set l s x) ((s + 1) % 512)) (omega (arith, length-turn (set l s x) ((s + 1) % 512) (omega (arith, length-set l s x)), length-set l s x)) in
+        rw (le-ltb _ _ e, m, t, t') (push-full l s x hs long)
+
+-- ---- the text of a slot
+
+front : (a r : List ℕ) (o n : ℕ) → o + n ≤ length a → take n (drop o (a ++ r)) ≡ take n (drop o a)
+front a r o n h =
+    let e : n ≤ length (drop o a) = simp length-drop (omega arith) in
+    rw (drop-append-le o a r (omega arith), take-append-le n (drop o a) r e)
+
+module _ (d b : List ℕ) (k : ℕ) (long : length d ≡ 16384) (full : length b ≡ 32) (hk : k < 512) where
+  head : length (take (k * 32) d) ≡ k * 32
+  head = length-take-le (k * 32) d (omega arith)
+
+  written : take 32 (drop (k * 32) (pasted d (k * 32) b)) ≡ b
+  written =
+      rw (append-assoc, drop-at (take (k * 32) d) (b ++ drop (k * 32 + length b) d) (k * 32) head, take-at b (drop (k * 32 + length b) d) 32 full)
+
+  kept : (j : ℕ) → j < 512 → (j ≡ k → ⊥) → take 32 (drop (j * 32) (pasted d (k * 32) b)) ≡ take 32 (drop (j * 32) d)
+  kept j hj ne = go (decLt j k)
+    where
+      go : Dec (j < k) → take 32 (drop (j * 32) (pasted d (k * 32) b)) ≡ take 32 (drop (j * 32) d)
+      go (yes h) =
+          let p : take 32 (drop (j * 32) (take (k * 32) d ++ (b ++ drop (k * 32 + length b) d))) ≡ take 32 (drop (j * 32) (take (k * 32) d)) =
+          front (take (k * 32) d) (b ++ drop (k * 32 + length b) d) (j * 32) 32 (omega (arith, head)) in
+          let q : take 32 (drop (j * 32) (take (k * 32) d ++ drop (k * 32) d)) ≡ take 32 (drop (j * 32) (take (k * 32) d)) =
+          front (take (k * 32) d) (drop (k * 32) d) (j * 32) 32 (omega (arith, head)) in
+          rw append-assoc (p ∙ sym q ∙ rw take-append-drop)
+      go (no h) =
+          let l : length (take (k * 32) d ++ b) ≡ k * 32 + length b = simp (length-append, head) in
+          let w : k * 32 + length b + (j * 32 - (k * 32 + 32)) ≡ j * 32 = omega arith in
+          let a : drop (j * 32) (pasted d (k * 32) b) ≡ drop (j * 32) d =
+          ap (λ (n : ℕ). drop n (pasted d (k * 32) b)) (sym w)
+          ∙ sym (drop-drop (j * 32 - (k * 32 + 32)) (k * 32 + length b) (pasted d (k * 32) b))
+          ∙ ap (drop (j * 32 - (k * 32 + 32))) (drop-at (take (k * 32) d ++ b) (drop (k * 32 + length b) d) (k * 32 + length b) l)
+          ∙ drop-drop (j * 32 - (k * 32 + 32)) (k * 32 + length b) d
+          ∙ ap (λ (n : ℕ). drop n d) w in
+          ap (take 32) a
+
+pub length-pasted : (d : List ℕ) (at : ℕ) (xs : List ℕ) → at + length xs ≤ length d → length (pasted d at xs) ≡ length d
+length-pasted d at xs h = simp (length-append, length-take, length-drop) (omega arith)
+
+-- ---- short texts
+
+short-snoc : (l : List ℕ) (n : ℕ) → shortTexts l ≡ true → n ≤ 32 → shortTexts (l ++ (n ∷ [])) ≡ true
+unfolding shortTexts
+short-snoc [] n s h = rw (le-ltb 32 n h)
+short-snoc (m ∷ l) n s h =
+    let p = pick-true (ltb 32 m) (shortTexts l) s in
+    rw (p .0) (short-snoc l n (p .1) h)
+
+short-tail : (l : List ℕ) → shortTexts l ≡ true → shortTexts (drop 1 l) ≡ true
+unfolding shortTexts
+short-tail [] s = s
+short-tail (m ∷ l) s = pick-true (ltb 32 m) (shortTexts l) s .1
+
+short-pushed : (l : List ℕ) (n : ℕ) → shortTexts l ≡ true → n ≤ 32 → shortTexts (pushed n l) ≡ true
+unfolding pushed
+short-pushed l n s h = go (ltb (length l) 512)
+  where
+    go : (b : Bool) → shortTexts (cond b l (drop 1 l) ++ (n ∷ [])) ≡ true
+    go true = short-snoc l n s h
+    go false = short-snoc (drop 1 l) n (short-tail l s) h
+
+-- ---- the whole push, on the five arrays
+module _ (x i a p l : List ℕ) (start n : ℕ) (e : TraceRecord) (f : TraceFit start n x i a p l) (lb : length (e .text .bytes) ≡ 32) (small : e .text .len ≤ 32) where
+  abbrev at : ℕ
+  at = (start % 512 + n) % 512
+
+  abbrev before : ℕ → TraceRecord
+  before = recordAt x i a p l
+
+  abbrev x' : List ℕ
+  x' = pasted x (at * 32) (e .text .bytes)
+
+  abbrev then : ℕ → TraceRecord
+  then = recordAt x' (set i at (e .number)) (set a at (e .address)) (set p at (e .phase)) (set l at (e .text .len))
+
+  whole : slots 512 then ≡ set (slots 512 before) at e
+  whole =
+      slots-set 512 at before then e (omega arith)
+      (rw (getD-set-same i at (e .number) 0 (omega (arith, f .numbers)), getD-set-same a at (e .address) 0 (omega (arith, f .addresses)), getD-set-same p at (e .phase) 0 (omega (arith, f .phases)), getD-set-same l at (e .text .len) 0 (omega (arith, f .lengths)), written x (e .text .bytes) at (f .texts) lb (omega arith)))
+      (λ j hj ne.
+      rw (getD-set-other i at j (e .number) 0 ne, getD-set-other a at j (e .address) 0 ne, getD-set-other p at j (e .phase) 0 ne, getD-set-other l at j (e .text .len) 0 ne, kept x (e .text .bytes) at (f .texts) lb (omega arith) j hj ne))
+
+  abbrev Fits : ℕ → ℕ → Type 0
+  Fits s k = TraceFit s k x' (set i at (e .number)) (set a at (e .address)) (set p at (e .phase)) (set l at (e .text .len))
+
+  fits : (s k : ℕ) → k ≤ 512 → liveLengths s k (set l at (e .text .len)) ≡ pushed (e .text .len) (liveLengths start n l) → Fits s k
+  fits s k h z = record {
+    count = h;
+    texts = length-pasted x (at * 32) (e .text .bytes) (omega (arith, f .texts)) ∙ f .texts;
+    numbers = simp length-set (f .numbers);
+    addresses = simp length-set (f .addresses);
+    phases = simp length-set (f .phases);
+    lengths = simp length-set (f .lengths);
+    short = rw z (short-pushed (liveLengths start n l) (e .text .len) (f .short) small);
+  }
+
+  abbrev Pushes : ℕ → ℕ → Type 0
+  Pushes s k = (liveTrace s k x' (set i at (e .number)) (set a at (e .address)) (set p at (e .phase)) (set l at (e .text .len)) ≡ pushed e (liveTrace start n x i a p l)) × Fits s k
+
+  pushes : n < 512 → Pushes (start % 512) (n + 1)
+  unfolding liveTrace liveLengths
+  pushes h =
+      let m : start % 512 % 512 ≡ start % 512 = omega arith in (
+        rw (m, whole) (more (slots 512 before) (start % 512) n e (length-slots 512 before) (omega arith) h),
+        fits (start % 512) (n + 1) (omega arith) (rw m (more l (start % 512) n (e .text .len) (f .lengths) (omega arith) h)),
+      )
+
+  replaces : n ≡ 512 → Pushes ((start % 512 + 1) % 512) n
+  unfolding liveTrace liveLengths
+  replaces h =
+      let m : (start % 512 + 1) % 512 % 512 ≡ (start % 512 + 1) % 512 = omega arith in (
+        rw (m, whole) (over (slots 512 before) (start % 512) n e (length-slots 512 before) (omega arith) h),
+        fits ((start % 512 + 1) % 512) n (f .count) (rw m (over l (start % 512) n (e .text .len) (f .lengths) (omega arith) h)),
+      )
+
+-- a record written into its slot is the live records with one more
+pub pushed-live : (e : TraceRecord) (q : Arrays) {q' : Arrays} → q' ≡ pushInto e q → length (e .text .bytes) ≡ 32 → e .text .len ≤ 32 → ArraysFit q
+    → (live q' ≡ pushed e (live q)) × ArraysFit q'
+unfolding pushInto nextRing
+pushed-live e q eq lb small f = rw eq (go (decLt (q .ring .len) 512))
+  where
+    at : slotOf (q .ring) ≡ (q .ring .start % 512 + q .ring .len) % 512
+    at = omega arith
+
+    go : Dec (q .ring .len < 512) → (live (pushInto e q) ≡ pushed e (live q)) × ArraysFit (pushInto e q)
+    go (yes h) =
+        rw (lt-ltb _ _ h, at) (pushes (q .texts) (q .numbers) (q .addresses) (q .phases) (q .lengths) (q .ring .start) (q .ring .len) e f lb small h)
+    go (no h) =
+        rw (le-ltb (q .ring .len) 512 (omega arith), at) (replaces (q .texts) (q .numbers) (q .addresses) (q .phases) (q .lengths) (q .ring .start) (q .ring .len) e f lb small (omega (arith, f .count)))

@@ -1,0 +1,51 @@
+-- The touched addresses (01, section 3; vm.rs, `bus_write`): each address of a bus write once, in order of first writing.
+-- Assumes nothing.
+use Prim.Native.Nat.{ℕ, _+_, _≤_, _<_}
+use mathlib.Core.Path.{_≡_}
+use mathlib.Core.Bool.{Bool, true, false, cond}
+use mathlib.Core.List.{List, [], _∷_, _++_}
+use lib.Dec.{ltb}
+use lib.ListN.{length, take, getD, set}
+use Rattle.encoding.specs.Bytes.{member}
+use Rattle.tick.specs.declared.control.BusTransfer.{BusTransfer}
+use Rattle.tick.specs.declared.control.BusTransfer.the-variants.{Idle, Read, Write}
+
+-- the addresses with one more, unless it is there
+unfoldable pub noted : ℕ → List ℕ → List ℕ
+noted a l = cond (member a l) l (l ++ (a ∷ []))
+
+-- a bus write notes its address, whatever its value
+abbrev pub touchedBy : BusTransfer → List ℕ → List ℕ
+touchedBy Idle l = l
+touchedBy (Read a v) l = l
+touchedBy (Write a v) l = noted a l
+
+-- no address stands there twice
+unfoldable pub distinct : List ℕ → Bool
+distinct [] = true
+distinct (x ∷ xs) = cond (member x xs) false (distinct xs)
+
+-- what the array is between two ticks, n of its places live
+pub record TouchFit (n : ℕ) (t : List ℕ) : Type 0 where
+  pub count : n ≤ 256
+  pub long : length t ≡ 256
+  pub bytes : (i : ℕ) → getD t i 0 < 256
+  pub differ : distinct (take n t) ≡ true
+
+-- ---- the array, and how many of its places are live
+
+pub record Places : Type 0 where
+  pub count : ℕ
+  pub items : List ℕ
+
+abbrev pub placesOf : ℕ → List ℕ → Places
+placesOf n t = record { count = n; items = t }
+
+-- an address written into the next place, unless it is there or there is none
+unfoldable pub noteIn : ℕ → Places → Places
+noteIn a q = cond (ltb (q .count) 256) (cond (member a (take (q .count) (q .items))) q (placesOf (q .count + 1) (set (q .items) (q .count) a))) q
+
+unfoldable pub touchIn : BusTransfer → Places → Places
+touchIn Idle q = q
+touchIn (Read a v) q = q
+touchIn (Write a v) q = noteIn a q

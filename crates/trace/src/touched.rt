@@ -1,0 +1,41 @@
+// The addresses that the running program has written to, in order of first writing.
+ghost use mathlib.Core.Path.{_≡_};
+ghost use Prim.Native.Nat.{_≤_};
+ghost use lib.ListN.{length, take};
+ghost use Rattle.encoding.specs.Bytes.{member};
+ghost use Rattle.trace.specs.Touched.{placesOf, noteIn, touchIn};
+use encoding::contains;
+use tick::BusTransfer;
+
+// Whether `a` stands among the first `n`.
+fn listed(items: &[u8], n: usize, a: u8) -> bool
+    requires { ⌜ n ≤ length (now items) ⌝ }
+    ensures { λ r. ⌜ r ≡ member a (take n (now (items .entry))) ⌝ }
+{
+    contains(&items[..n], a)
+}
+
+// The address `a` is added, once; 256 are all there are.
+fn touch_at(a: u8, items: &mut [u8; 256], n: usize) -> usize
+    ensures { λ r. ⌜ placesOf r (now (items .exit)) ≡ noteIn a (placesOf n (now (items .entry))) ⌝ }
+{
+    if 256 <= n {
+        return n;
+    }
+    if listed(items, n, a) {
+        return n;
+    }
+    items[n] = a;
+    n + 1
+}
+
+// The address of a bus write is added, once.
+pub fn touch(b: BusTransfer, items: &mut [u8; 256], n: usize) -> usize
+    ensures { λ r. ⌜ placesOf r (now (items .exit)) ≡ touchIn b (placesOf n (now (items .entry))) ⌝ }
+{
+    match b {
+        BusTransfer::Idle => n,
+        BusTransfer::Read { .. } => n,
+        BusTransfer::Write { address, value: _ } => touch_at(address, items, n),
+    }
+}

@@ -1,0 +1,210 @@
+// The guarded run: a run of a new machine that stops before it would show what is hidden. The plain
+// machine does not see the marks; they move beside it, once for each instruction.
+ghost use mathlib.Core.Path.{_≡_};
+ghost use mathlib.Core.Bool.{true, cond};
+ghost use lib.Dec.{eqb};
+ghost use lib.ListN.{length};
+ghost use Rattle.guard.specs.Marks.{marked};
+ghost use Rattle.guard.specs.Input.{inputRefusal};
+ghost use Rattle.vm.specs.View.{parts, view, Fit};
+ghost use Rattle.vm.specs.Guard.{closedCore, guardedRun, guardedOf, endOf};
+ghost use Rattle.vm.specs.Calls.{imageWords, isMachine, restOf};
+use crate::instruction::Ticks;
+use crate::instruction::instruction_parts;
+use crate::machine::Machine;
+use crate::machine::image_size;
+use crate::machine::image_words;
+use crate::machine::mark_words;
+use crate::machine::switched_on;
+use crate::run::Begun;
+use crate::run::exhausted;
+use crate::transfer::Core;
+use guard::GuardedStop;
+use guard::Marks;
+use guard::Verdict;
+use guard::guard_refusal;
+use guard::judge;
+use guard::mark_instruction;
+
+// Of the stops only a spent budget changes the machine.
+fn closed_core(stop: GuardedStop, core: Core) -> Core
+    ensures { λ r. ⌜ r ≡ closedCore stop core ⌝ }
+{
+    match stop {
+        GuardedStop::Halted => core,
+        GuardedStop::Breakpoint => core,
+        GuardedStop::Fault => core,
+        GuardedStop::Budget => exhausted(core),
+        GuardedStop::HiddenWord => core,
+        GuardedStop::HiddenJump => core,
+    }
+}
+
+pub struct GuardedCore {
+    pub core: Core,
+    pub stop: GuardedStop,
+    pub executed: Begun,
+    pub mdr_mark: u8,
+}
+
+// The run of a machine whose MDR is open.
+fn guarded_parts(
+    from: Core,
+    budget: Begun,
+    breakpoints: &[u8],
+    marks: &mut [u8; 256],
+    register_marks: &mut [u8; 16],
+    memory: &mut [u16; 256],
+    registers: &mut [u16; 16],
+    touched: &mut [u8; 256],
+    texts: &mut [u8; 16384],
+    numbers: &mut [u64; 512],
+    addresses: &mut [u8; 512],
+    phases: &mut [u8; 512],
+    lengths: &mut [u8; 512],
+) -> GuardedCore
+    requires { ⌜ Fit (parts from (now memory) (now registers) (now touched) (now texts) (now numbers) (now addresses) (now phases) (now lengths)) ⌝ }
+    ensures { λ r. ⌜ (record { stop = r .stop; executed = r .executed .0; guarded = record { machine = view (parts (r .core) (now (memory .exit)) (now (registers .exit)) (now (touched .exit)) (now (texts .exit)) (now (numbers .exit)) (now (addresses .exit)) (now (phases .exit)) (now (lengths .exit))); marks = record { memory = now (marks .exit); registers = now («register_marks» .exit); mdr = r .«mdr_mark» } } } ≡ guardedRun marked (now (breakpoints .entry)) 0 (budget .0) (record { machine = view (parts from (now (memory .entry)) (now (registers .entry)) (now (touched .entry)) (now (texts .entry)) (now (numbers .entry)) (now (addresses .entry)) (now (phases .entry)) (now (lengths .entry))); marks = record { memory = now (marks .entry); registers = now («register_marks» .entry); mdr = 0 } })) × Fit (parts (r .core) (now (memory .exit)) (now (registers .exit)) (now (touched .exit)) (now (texts .exit)) (now (numbers .exit)) (now (addresses .exit)) (now (phases .exit)) (now (lengths .exit))) ⌝ }
+{
+    let mut s = from;
+    let limit = budget.0;
+    let mut begun: u64 = 0;
+    let mut mdr: u8 = 0;
+    loop {
+        let state = s.state;
+        let pc = state.control.pc as usize;
+        let word = memory[pc];
+        let mark = marks[pc];
+        let verdict = judge(state, breakpoints, begun, limit, word, mark, register_marks);
+        if let Verdict::Stop(stop) = verdict {
+            let core = closed_core(stop, s);
+            return GuardedCore {
+                core,
+                stop,
+                executed: Begun(begun),
+                mdr_mark: mdr,
+            };
+        }
+        let opened = mark_instruction(word, marks, register_marks);
+        let t = instruction_parts(
+            s,
+            Ticks(7),
+            memory,
+            registers,
+            touched,
+            texts,
+            numbers,
+            addresses,
+            phases,
+            lengths,
+        );
+        let next = t.core;
+        s = next;
+        mdr = opened;
+        begun += 1;
+    }
+}
+
+// A refused run begins no instruction.
+fn allowed(refused: u8, budget: Begun) -> Begun
+    ensures { λ r. ⌜ r .0 ≡ cond (eqb refused 0) (budget .0) 0 ⌝ }
+{
+    if refused == 0 {
+        return budget;
+    }
+    Begun(0)
+}
+
+// `refused` is 0, or the number of the refusal, beside which the rest counts for nothing.
+pub struct GuardedRun {
+    pub machine: Machine,
+    pub marks: Marks,
+    pub stop: GuardedStop,
+    pub executed: Begun,
+    pub refused: u8,
+}
+
+// Load an image on a new machine, and run it until a stop; `marks` are those of its memory.
+pub fn guarded_run(image: &[u16], marks: &[u8], budget: Begun, breakpoints: &[u8]) -> GuardedRun
+    ensures refusal { λ r. ⌜ r .refused ≡ inputRefusal (record { image = now (image .entry); marks = now (marks .entry); budget = budget .0; breaks = now (breakpoints .entry) }) ⌝ }
+    ensures answer { λ r. ⌜ (r .refused ≡ 0 → endOf r ≡ guardedOf marked (record { image = now (image .entry); marks = now (marks .entry); budget = budget .0; breaks = now (breakpoints .entry) })) ⌝ }
+    ensures rest { λ r. ⌜ (r .refused ≡ 0 → restOf (r .machine) ≡ record { image = imageWords (now (image .entry)); length = length (now (image .entry)); history = 0 }) ⌝ }
+    ensures machine { λ r. ⌜ isMachine (r .machine) ≡ true ⌝ }
+{
+    let limit = budget.0;
+    let refused = guard_refusal(image, marks, limit, breakpoints);
+    let words = image_words(image);
+    let size = image_size(image.len());
+    let new = switched_on(words, size, 0);
+    let state = new.state;
+    let counters = new.counters;
+    let core = Core {
+        state,
+        counters,
+        touched_len: new.touched_len,
+        trace_start: new.trace_start,
+        trace_len: new.trace_len,
+    };
+    let mut registers = new.registers;
+    let mut memory = new.memory;
+    let mut phases = new.phases;
+    let mut addresses = new.addresses;
+    let mut numbers = new.numbers;
+    let mut texts = new.texts;
+    let mut lengths = new.lengths;
+    let mut touched = new.touched;
+    let mut word_marks = mark_words(marks);
+    let mut register_marks = [0u8; 16];
+    let given = allowed(refused, budget);
+    let r = guarded_parts(
+        core,
+        given,
+        breakpoints,
+        &mut word_marks,
+        &mut register_marks,
+        &mut memory,
+        &mut registers,
+        &mut touched,
+        &mut texts,
+        &mut numbers,
+        &mut addresses,
+        &mut phases,
+        &mut lengths,
+    );
+    let end = r.core;
+    let stop = r.stop;
+    let executed = r.executed;
+    let state = end.state;
+    let counters = end.counters;
+    let image = new.image;
+    let machine = Machine {
+        memory,
+        registers,
+        state,
+        counters,
+        texts,
+        numbers,
+        addresses,
+        phases,
+        lengths,
+        trace_start: end.trace_start,
+        trace_len: end.trace_len,
+        touched,
+        touched_len: end.touched_len,
+        image,
+        image_len: new.image_len,
+        history_len: new.history_len,
+    };
+    let marks = Marks {
+        memory: word_marks,
+        registers: register_marks,
+        mdr: r.mdr_mark,
+    };
+    GuardedRun {
+        machine,
+        marks,
+        stop,
+        executed,
+        refused,
+    }
+}
