@@ -1,4 +1,4 @@
--- The laws by subject: `Cut` takes equal bytes apart, `Accepts` is of the inputs that are not refused, `Shows` of what a record shows and of its length, `Fronts` of the records of the input, `Ends` of those of the run's end, `Bounds` of what a guarded run leaves, `Lengths` of the whole report, `Traces` of the machine's struct, `Wholes` and `Calls` of the code's last steps, `Programs` of the report program's input, `Decides`, that its first bytes decide; `Theorem` is demand 3, and `Examples` has two of document 01's.
+-- The laws by subject: `Cut` takes equal bytes apart, `Accepts` is of the inputs that are not refused, `Shows` of what a record shows and of its length, `Fronts` of the records of the input, `Ends` of those of the run's end, `Bounds` of what a guarded run leaves, `Lengths` of the whole report, `Traces` of the machine's struct, `Wholes` and `Calls` of the code's last steps, `Programs` of the report program's input, `Decides`, that its first bytes decide; `Theorem` is demand 3, `Longest` the report that reaches the limit, and `Examples` has two of document 01's.
 pub mod Levels
 pub mod Twins
 pub mod Steps
@@ -18,3 +18,4 @@ pub mod Programs
 pub mod Decides
 pub mod Theorem
 pub mod Examples
+pub mod Longest
