@@ -1,13 +1,61 @@
 // What is refused of a state.
 ghost use mathlib.Core.Path.{_≡_};
-ghost use Prim.Native.Nat.{_<_, ℕ};
-ghost use lib.ListN.{length, getD};
+ghost use Prim.Native.Nat.{_≤_, _<_, _-_, _%_, ℕ};
+ghost use lib.ListN.{length, take, drop, getD};
+ghost use Rattle.trace.specs.Trace.{shortTexts, liveLengths};
+ghost use Rattle.trace.specs.Touched.{distinct};
 ghost use Rattle.vm.specs.Refusal.{partsOk, stepRefusal};
 use crate::transfer::Core;
 use tick::is_lawful;
 use tick::is_over_counted;
-use trace::all_different;
-use trace::texts_short;
+
+// No length from `from` up to `to` is over 32. There is no way out of the loop, so that the compiler
+// tests many at once.
+fn short_between(lengths: &[u8; 512], from: usize, to: usize) -> bool
+    requires { ⌜ (from ≤ to) × (to ≤ 512) × (length (now lengths) ≡ 512) ⌝ }
+    ensures { λ r. ⌜ r ≡ shortTexts (take (to - from) (drop from (now (lengths .entry)))) ⌝ }
+{
+    let mut over = false;
+    let mut i = from;
+    while i < to {
+        over = over | (32 < lengths[i]);
+        i += 1;
+    }
+    !over
+}
+
+// No live text is over 32 bytes.
+fn texts_short(start: usize, n: usize, lengths: &[u8; 512]) -> bool
+    requires { ⌜ (n ≤ 512) × (length (now lengths) ≡ 512) ⌝ }
+    ensures { λ r. ⌜ r ≡ shortTexts (liveLengths start n (now (lengths .entry))) ⌝ }
+{
+    let from = start % 512;
+    let end = from + n;
+    if end <= 512 {
+        return short_between(lengths, from, end);
+    }
+    let first = short_between(lengths, from, 512);
+    let second = short_between(lengths, 0, end - 512);
+    first & second
+}
+
+// No live address stands there twice.
+fn all_different(items: &[u8; 256], n: usize) -> bool
+    requires { ⌜ (n ≤ 256) × (length (now items) ≡ 256) × ((i : ℕ) → getD (now items) i 0 < 256) ⌝ }
+    ensures { λ r. ⌜ r ≡ distinct (take n (now (items .entry))) ⌝ }
+{
+    let mut seen = [0u8; 256];
+    let mut i = 0;
+    while i < n {
+        let a = items[i] as usize;
+        if seen[a] == 1 {
+            return false;
+        }
+        seen[a] = 1;
+        i += 1;
+    }
+    true
+}
 
 // False where the parts are no machine: each call is refused 8.
 pub(crate) fn parts_ok(c: Core, size: usize, touched: &[u8; 256], lengths: &[u8; 512]) -> bool
@@ -23,8 +71,14 @@ pub(crate) fn parts_ok(c: Core, size: usize, touched: &[u8; 256], lengths: &[u8;
     if 256 < size {
         return false;
     }
+    if 512 < c.trace_len {
+        return false;
+    }
     let short = texts_short(c.trace_start, c.trace_len, lengths);
     if !short {
+        return false;
+    }
+    if 256 < c.touched_len {
         return false;
     }
     all_different(touched, c.touched_len)
