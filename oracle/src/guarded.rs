@@ -4,7 +4,7 @@
 
 use crate::isa::MEMORY_WORDS;
 use crate::marks::Marks;
-use crate::vm::{Fault, FaultKind, Machine, RunStop};
+use crate::vm::{Machine, RunStop};
 
 /// The most breakpoints, and the largest budget, that are taken.
 pub const BREAKPOINTS: usize = 256;
@@ -97,7 +97,8 @@ fn guarded(input: &Input) -> Run {
         executed += 1;
     };
     if stop == Stop::Budget {
-        spend(&mut machine);
+        // A spent budget halts the machine, as the original does it.
+        machine.run(0, &[]);
     }
     Run {
         machine,
@@ -148,16 +149,6 @@ fn halted_stop(machine: &Machine) -> Stop {
 
 fn word_at_pc(machine: &Machine) -> u16 {
     machine.memory[usize::from(machine.pc)]
-}
-
-/// A spent budget halts the machine.
-fn spend(machine: &mut Machine) {
-    machine.fault = Some(Fault {
-        kind: FaultKind::StepBudgetExhausted,
-        word: machine.ir,
-        address: machine.pc,
-    });
-    machine.halted = true;
 }
 
 // -- the original's say -----------------------------------------------------

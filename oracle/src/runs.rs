@@ -2,7 +2,7 @@
 
 use crate::answers;
 use crate::isa::Instruction;
-use crate::vm_limited::{Fault, FaultKind, Machine, RunStop};
+use crate::vm_limited::{Machine, RunStop};
 
 /// The largest count that refusal 9 lets go on.
 pub const FULL: u64 = 18_446_744_073_709_551_600;
@@ -71,7 +71,8 @@ fn stepped_run(machine: &mut Machine, budget: u64, breakpoints: &[u8]) -> Result
             return Ok(answers::ran(RunStop::Breakpoint(machine.pc), begun));
         }
         if begun >= budget {
-            spend(machine);
+            // A spent budget halts the machine, as the original does it.
+            machine.run(0, &[]);
             return Ok(answers::ran(RunStop::Budget, begun));
         }
         if is_over_counted(machine) {
@@ -85,14 +86,4 @@ fn stepped_run(machine: &mut Machine, budget: u64, breakpoints: &[u8]) -> Result
         None => RunStop::Halted,
     };
     Ok(answers::ran(stop, begun))
-}
-
-/// A spent budget halts the machine.
-fn spend(machine: &mut Machine) {
-    machine.fault = Some(Fault {
-        kind: FaultKind::StepBudgetExhausted,
-        word: machine.ir,
-        address: machine.pc,
-    });
-    machine.halted = true;
 }

@@ -3,6 +3,7 @@
 
 use oracle::example_reports::{self as examples, input, marks_at, with_word_10};
 use oracle::guarded::{self, Input, Run, Stop};
+use oracle::record;
 use oracle::report_bytes::{self, LONGEST};
 use oracle::report_lists::{Relation, FAMILIES};
 use oracle::report_program::{answer, bytes, refused, DECIDING};
@@ -631,25 +632,21 @@ fn all_values_of_a_hidden_word() {
 /// The list of the sample is read back as it was made.
 #[test]
 fn the_sample() {
-    let list = report_sample::list();
+    let list = record::list_bytes(&report_sample::records());
     let mut rest = &list[..];
     let mut lengths = Vec::new();
     let mut refusals = Vec::new();
     for input in report_sample::inputs() {
         let (length, behind) = rest.split_at(2);
-        assert_eq!(length, (input.len() as u16).to_be_bytes());
-        let (read, behind) = behind.split_at(input.len());
-        assert_eq!(read, input);
-        let (length, behind) = behind.split_at(4);
-        let length = u32::from_be_bytes(length.try_into().unwrap()) as usize;
-        assert_eq!(behind[..length], answer(&input));
-        lengths.push(length);
-        refusals.extend(
-            behind[..length]
-                .strip_prefix(b"refused ")
-                .map(|line| line[0]),
-        );
-        rest = &behind[length..];
+        let length = usize::from(u16::from_be_bytes(length.try_into().unwrap()));
+        let (record, behind) = behind.split_at(length);
+        let (head, found) = record.split_at(3 + input.len());
+        let count = (input.len() as u16).to_be_bytes();
+        assert_eq!(head, [&[report_sample::KIND], &count[..], &input].concat());
+        assert_eq!(found, answer(&input));
+        lengths.push(found.len());
+        refusals.extend(found.strip_prefix(b"refused ").map(|line| line[0]));
+        rest = behind;
     }
     assert!(rest.is_empty());
     assert!(lengths.len() >= 40 && lengths.contains(&LONGEST));
