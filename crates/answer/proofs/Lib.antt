@@ -1,2 +1,2 @@
--- `Lines` has the laws of a refusal's line.
+-- `Lines` has the laws of the lines that a program writes.
 pub mod Lines

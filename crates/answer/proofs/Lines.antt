@@ -1,68 +1,84 @@
--- The laws of `specs/Line.antt`: the digits that `io::decimal` makes of a byte, the line's length, and the bytes that the code puts one behind the other.
+-- The laws of `specs/Line.antt`: the digits that `io::decimal` makes of a number, and the pieces of a line that the code puts one behind the other.
 -- Assumes nothing.
-use Prim.Native.Nat.{ℕ, zero, suc, _+_, _-_, _/_, _%_, _^_, _≤_, _<_}
-use native.Mathlib.Nat.{pow-le-pow-right}
+use Prim.Native.Nat.{ℕ, zero, suc, _+_, _-_, _*_, _/_, _%_, _^_, _≤_, _<_}
+use native.Mathlib.Nat.{pow-suc, pow-le-pow-right}
 use native.Mathlib.Omega.{arith}
 use mathlib.Core.Path.{_≡_, refl, sym, ap, _∙_}
-use mathlib.Core.List.{List, [], _∷_}
-use borrow.Author.Tests.{lt-ltb, le-ltb}
-use lib.Dec.{lit<}
-use lib.ListN.{length, take, replicate, length-append}
+use mathlib.Core.Bool.{Bool, true, false}
+use mathlib.Core.List.{List, [], _∷_, _++_}
+use borrow.Author.Tests.{lt-ltb, le-ltb, leb-true, leb-false}
+use lib.Dec.{leb, lit<}
+use lib.ListN.{length, take, length-append}
 use Rattle.io.specs.Digits.{digits, Fewest}
-use Rattle.isa.specs.Text.{ascii}
 use Rattle.encoding.specs.Bytes.{over, written}
-use Rattle.encoding.proofs.Written.{length-over, writtens-eq, take-over}
-use Rattle.listing.specs.Listing.{decimal}
-use Rattle.listing.proofs.Listings.{decimal-short}
-use Rattle.answer.specs.Line.{refusalLine}
+use Rattle.encoding.proofs.Written.{over-over, take-over, writtens-eq}
+use Rattle.answer.specs.Line.{decimalIn, decimal}
 
-pub digits-decimal : (n k : ℕ) → n < 256 → Fewest 10 1 n k → digits 10 k n ≡ decimal n
-unfolding decimal
-digits-decimal n zero h f = absurd (omega (arith, f .0))
-digits-decimal n (suc zero) h f =
+-- a number of 64 bits has 20 digits at most
+pub few : (n k : ℕ) → n < 2 ^ 64 → Fewest 10 1 n k → k ≤ 20
+few n k small f = go (leb k 20) refl
+  where
+    go : (b : Bool) → leb k 20 ≡ b → k ≤ 20
+    go true e = leb-true k 20 e
+    go false e =
+        let more : 20 < k = leb-false k 20 e in
+        let g : 10 ^ (k - 1) ≤ n = f .2 (omega arith) in
+        let p : 10 ^ 20 ≤ 10 ^ (k - 1) = pow-le-pow-right (lit< tt) {i = 20} {j = k - 1} (omega arith) in
+        absurd (omega arith)
+
+least : (k n : ℕ) → Fewest 10 1 n (suc (suc k)) → 10 ^ suc k ≤ n
+least k n f =
+    let e : suc (suc k) - 1 ≡ suc k = omega arith in
+    rw e at (f .2 (omega arith))
+
+-- ten times as small, and one digit less
+tenth : (k n : ℕ) → Fewest 10 1 n (suc (suc k)) → Fewest 10 1 (n / 10) (suc k)
+tenth k n f =
+    let a : 10 ^ suc (suc k) ≡ 10 ^ suc k * 10 = pow-suc 10 (suc k) in
+    let b : 10 ^ suc k ≡ 10 ^ k * 10 = pow-suc 10 k in
+    let e : suc k - 1 ≡ k = omega arith in
+    let g : 10 ^ suc k ≤ n = least k n f in
+    (omega arith, omega (arith, f .1), λ h. rw e (omega arith))
+
+-- the fewest digits of n, where they are no more than j
+digits-in : (j k n : ℕ) → Fewest 10 1 n k → k ≤ j → digits 10 k n ≡ decimalIn j n
+unfolding decimalIn
+digits-in j zero n f h = absurd (omega (arith, f .0))
+digits-in zero (suc k) n f h = absurd (omega arith)
+digits-in (suc j) (suc zero) n f h =
     let l : n < 10 = f .1 in
     let e : n % 10 ≡ n = omega arith in
     rw (e, lt-ltb n 10 l)
-digits-decimal n (suc (suc zero)) h f =
-    let l : n < 100 = f .1 in
-    let g : 10 ≤ n = f .2 (lit< tt) in
-    let e : n / 10 % 10 ≡ n / 10 = omega arith in
-    rw (e, lt-ltb (n / 10) 10 (omega arith), lt-ltb (n % 10) 10 (omega arith), le-ltb n 10 g, lt-ltb n 100 l)
-digits-decimal n (suc (suc (suc zero))) h f =
-    let g : 100 ≤ n = f .2 (lit< tt) in
-    let e : n / 10 / 10 % 10 ≡ n / 100 = omega arith in
-    rw (e, lt-ltb (n / 100) 10 (omega arith), lt-ltb (n / 10 % 10) 10 (omega arith), lt-ltb (n % 10) 10 (omega arith), le-ltb n 10 (omega arith), le-ltb n 100 g)
-digits-decimal n (suc (suc (suc (suc k)))) h f =
-    let g : 10 ^ (suc (suc (suc (suc k))) - 1) ≤ n = f .2 (omega arith) in
-    let p : 10 ^ 3 ≤ 10 ^ (suc (suc (suc (suc k))) - 1) = pow-le-pow-right (lit< tt) {i = 3} {j = suc (suc (suc (suc k))) - 1} (omega arith) in
-    absurd (omega arith)
+digits-in (suc j) (suc (suc k)) n f h =
+    let g : 10 ^ suc k ≤ n = least k n f in
+    let p : 10 ^ 1 ≤ 10 ^ suc k = pow-le-pow-right (lit< tt) {i = 1} {j = suc k} (omega arith) in
+    let r : digits 10 (suc k) (n / 10) ≡ decimalIn j (n / 10) = digits-in j (suc k) (n / 10) (tenth k n f) (omega arith) in
+    rw (r, lt-ltb (n % 10) 10 (omega arith), le-ltb n 10 (omega arith))
 
 length-digits : (b k n : ℕ) → length (digits b k n) ≡ k
 length-digits b zero n = refl
 length-digits b (suc k) n = length-append (digits b k (n / b)) _ ∙ rw (length-digits b k (n / b)) (omega arith)
 
--- the line in its three parts: ds are the k digits of n
-module _ (n : ℕ) {k : ℕ} {ds : List ℕ} (small : n < 256) (f : Fewest 10 1 n k) (e : ds ≡ digits 10 k n) where
-  count : length (decimal n) ≡ k
-  count = sym (ap length (digits-decimal n k small f)) ∙ length-digits 10 k n
+-- ds are the k digits of n
+module _ (n : ℕ) {k : ℕ} {ds : List ℕ} (small : n < 2 ^ 64) (f : Fewest 10 1 n k) (e : ds ≡ digits 10 k n) where
+  is-decimal : ds ≡ decimal n
+  unfolding decimal
+  is-decimal = e ∙ digits-in 20 k n f (few n k small f)
 
-  pub few : k ≤ 3
-  few = rw count at (decimal-short n)
+  pub count : length (decimal n) ≡ k
+  count = sym (ap length is-decimal) ∙ ap length e ∙ length-digits 10 k n
 
-  pub line-length : 9 + k ≡ length (refusalLine n)
-  unfolding refusalLine
-  line-length = let l = count in simp length-append (omega arith)
+  -- they, and a text behind them
+  pub numbered : (d t : List ℕ) (at : ℕ) {o₁ o₂ : List ℕ} → at + (20 + length t) ≤ length d → o₁ ≡ written d at ds → o₂ ≡ written o₁ (at + k) t → o₂ ≡ over d at (decimal n ++ t)
+  numbered d t at h c₁ c₂ =
+      let s : k ≤ 20 = few n k small f in
+      c₂ ∙ rw (c₁, is-decimal)
+      (writtens-eq d at ((k, decimal n) ∷ (length t, t) ∷ []) (count, (refl, tt)) (omega arith))
 
-  module _ {o₁ o₂ o₃ : List ℕ} (c₁ : o₁ ≡ written (replicate 32 0) 0 (ascii "refused ")) (c₂ : o₂ ≡ written o₁ 8 ds) (c₃ : o₃ ≡ written o₂ (8 + k) (ascii "\n")) where
-    put-over : o₃ ≡ over (replicate 32 0) 0 (refusalLine n)
-    unfolding refusalLine
-    put-over =
-        let s : k ≤ 3 = few in
-        c₃ ∙ rw (c₂, c₁, e, digits-decimal n k small f)
-        (writtens-eq (replicate 32 0) 0 ((8, ascii "refused ") ∷ (k, decimal n) ∷ (1, ascii "\n") ∷ []) (refl, (count, (refl, tt))) (omega arith))
-
-    pub put-length : length o₃ ≡ 32
-    put-length = let s : k ≤ 3 = few in let l : 9 + k ≡ length (refusalLine n) = line-length in ap length put-over ∙ length-over (replicate 32 0) 0 (refusalLine n) (omega arith)
-
-    pub put-line : take (9 + k) o₃ ≡ refusalLine n
-    put-line = rw (put-over, line-length) (take-over (replicate 32 0) (refusalLine n))
+-- a line of two pieces, made in `d`: the bytes up to its end are written to `out`
+pub two-pieces : (out d a b : List ℕ) (at : ℕ) {o₁ o₂ t w : List ℕ} {size : ℕ} → at ≡ length a → at ≤ length d → o₁ ≡ over d 0 a → o₂ ≡ over o₁ at b → size ≡ at + length b → t ≡ take size o₂ → w ≡ written out 0 t
+    → (size ≡ length (a ++ b)) × (w ≡ written out 0 (a ++ b))
+two-pieces out d a b at {o₁} {o₂} {t} {w} {size} m h c₁ c₂ s e v =
+    let l : size ≡ length (a ++ b) = s ∙ rw m (sym (length-append a b)) in
+    let o : o₂ ≡ over d 0 (a ++ b) = c₂ ∙ rw c₁ (over-over d 0 a b at (omega arith) (omega arith)) in
+    (l, v ∙ ap (written out 0) (e ∙ rw (l, o) (take-over d (a ++ b))))
