@@ -1,15 +1,20 @@
-// Replays the readings of a machine, and reports, from standard input. A record has an image, a number
-// of ticks, and what every call that only reads a machine answers after them in the original in Rust;
-// or the report program's input, and the answer of the tests' own model. It passes where the port
-// answers the same. What is written is one line: how many passed and how many failed.
-// Reading and counting stand here as they do in replay_tick: a library's functions say by an equation
-// what they do, and none can say what is read.
+// Replays the readings of a machine, and reports, from standard input. A record has an image, a
+// number of ticks, and what every call that only reads a machine answers after them in the original
+// in Rust; or the report program's input, and the answer of the tests' own model. It passes where the
+// port answers the same. What is written is one line: how many passed and how many failed.
+// Reading and counting stand here as they do in replay_words: a library's functions say by an
+// equation what they do, and none can say what is read.
 mod readings;
 mod reports;
 
+use answer::first;
+use answer::put_counts;
 use libc::STDIN_FILENO;
 use libc::STDOUT_FILENO;
 use replay::word_at;
+
+// Room for the line of the largest counts, of 57 bytes.
+const LINE: usize = 64;
 
 // What became of the next record: `End` where the list has no more.
 enum Verdict {
@@ -18,8 +23,8 @@ enum Verdict {
     End,
 }
 
-// Whether a record is one that the original or the model would write. Where the kind is missing or unknown, it is
-// not.
+// Whether a record is one that the original or the model would write. Where the kind is missing or
+// unknown, it is not.
 fn passes(record: &[u8]) -> bool {
     if record.len() == 0 {
         return false;
@@ -66,10 +71,9 @@ fn next_verdict(buffer: &mut [u8]) -> Verdict {
 
 // The line that the program writes.
 fn print_counts(passed: u64, failed: u64) {
-    io::print_decimal(STDOUT_FILENO, passed);
-    io::write_all(STDOUT_FILENO, b" passed, ");
-    io::print_decimal(STDOUT_FILENO, failed);
-    io::write_all(STDOUT_FILENO, b" failed\n");
+    let mut line = [0u8; LINE];
+    let n = put_counts(&mut line, passed, failed);
+    io::write_all(STDOUT_FILENO, first(&line, n));
 }
 
 // Counts the records to the list's end. A proved loop has to end, and nothing says that the input
