@@ -1,5 +1,5 @@
-//! The two lists of `replay_disasm`: the fixed one, small enough to be kept,
-//! and the full one, which is made when it is needed.
+//! The two lists of `replay_words` on words, texts and listings: the fixed one,
+//! small enough to be kept, and the full one, which is made when it is needed.
 
 use crate::images;
 use crate::random::Random;

@@ -1,4 +1,4 @@
-//! The two lists of `replay_readings`, as those of `replay_disasm` in `lists`.
+//! The two lists of `replay_readings`, as those of `replay_words` in `lists`.
 
 use crate::programs::{self, HALT, JUMP};
 use crate::random::Random;

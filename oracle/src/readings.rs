@@ -2,12 +2,8 @@
 
 use crate::answers;
 use crate::record::Record;
-use crate::report_sample;
 use crate::ticks;
 use crate::vm::Machine;
-
-/// Every kind of these records.
-pub const KINDS: [u8; 2] = [b'R', report_sample::KIND];
 
 /// What a machine is asked: an image, how many ticks are made on it, and an
 /// address.

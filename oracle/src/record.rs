@@ -1,13 +1,11 @@
 //! One question and the original's answer to it, in the form that the replay
 //! programs read: length 2 (of what follows), kind 1, question, answer. Numbers
-//! are high byte first. Here are the records of `replay_disasm`.
+//! are high byte first. Here are those on words, texts and listings, for the
+//! program `replay_words`.
 
 use crate::disasm;
 use crate::images;
 use crate::isa::{self, Instruction, InstructionGroup, Opcode};
-
-/// Every kind of these records.
-pub const KINDS: [u8; 8] = *b"WNAEBHPL";
 
 /// The longest text that the port carries, and so the most digits.
 const TEXT: usize = 32;

@@ -1,7 +1,7 @@
 //! The port's programs that replay lists, each with its lists.
 
-use crate::record::{self, Record};
-use crate::{lists, reading_lists, readings, tick_lists, ticks};
+use crate::record::Record;
+use crate::{lists, reading_lists, tick_lists};
 
 pub struct Replay {
     pub program: &'static str,
@@ -18,28 +18,19 @@ pub struct Replay {
     pub malformed: fn() -> Vec<(String, Vec<u8>)>,
 }
 
-pub const REPLAYS: [Replay; 3] = [
+pub const REPLAYS: [Replay; 2] = [
     Replay {
-        program: "replay_disasm",
-        kinds: &record::KINDS,
-        fixed: lists::fixed,
-        full: lists::full,
-        samples: lists::samples,
+        program: "replay_words",
+        kinds: b"WNAEBHPLTFUM",
+        fixed: || joined(lists::fixed(), tick_lists::fixed()),
+        full: || joined(lists::full(), tick_lists::full()),
+        samples: || joined(lists::samples(), tick_lists::samples()),
         counted: b"PL",
         malformed: Vec::new,
     },
     Replay {
-        program: "replay_tick",
-        kinds: &ticks::KINDS,
-        fixed: tick_lists::fixed,
-        full: tick_lists::full,
-        samples: tick_lists::samples,
-        counted: b"",
-        malformed: Vec::new,
-    },
-    Replay {
         program: "replay_readings",
-        kinds: &readings::KINDS,
+        kinds: b"RG",
         fixed: reading_lists::fixed,
         full: reading_lists::full,
         samples: reading_lists::samples,
@@ -47,3 +38,9 @@ pub const REPLAYS: [Replay; 3] = [
         malformed: reading_lists::malformed,
     },
 ];
+
+/// One list behind the other.
+fn joined(mut first: Vec<Record>, second: Vec<Record>) -> Vec<Record> {
+    first.extend(second);
+    first
+}

@@ -1,4 +1,5 @@
-//! The two lists of `replay_tick`, as those of `replay_disasm` in `lists`.
+//! The two lists of `replay_words` on plans and single ticks, as those in
+//! `lists`.
 
 use crate::isa::Opcode;
 use crate::lists;

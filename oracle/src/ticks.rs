@@ -1,11 +1,8 @@
-//! Records of the machine's single ticks, for the program `replay_tick`.
+//! Records of plans and single ticks, for the program `replay_words`.
 
 use crate::isa::{Instruction, Opcode};
 use crate::record::{put_text, Record};
 use crate::vm::{AluRecord, BusDirection, BusTransfer, Fault, FaultKind, Machine, MicroOp, Phase};
-
-/// Every kind of these records.
-pub const KINDS: [u8; 4] = *b"TFUM";
 
 /// The most transfers that an instruction has.
 const PLAN: usize = 7;

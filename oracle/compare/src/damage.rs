@@ -99,8 +99,8 @@ fn cut_large(tally: &mut Tally, replay: &Replay, random: &mut Random) {
         list.extend(record.bytes());
         ends.push(list.len());
     }
-    let by_chance = (0..20).map(|_| random.below(list.len()));
-    let ends_of_buffers = [0, 4_096, 8_192, 65_536, 131_072];
+    let by_chance = (0..40).map(|_| random.below(list.len()));
+    let ends_of_buffers = [0, 4_096, 8_192, 65_536, 131_072, 262_144, 524_288];
     let there = ends_of_buffers.into_iter().filter(|at| *at <= list.len());
     for at in by_chance.chain(there) {
         let passed = ends.iter().filter(|end| **end <= at).count() - 1;

@@ -1,8 +1,8 @@
 -- Invariant: the loop has passed no more than the 13 opcodes. Assumes nothing.
 use Prim.Native.Nat.{_≤_, _-_}
 use borrow.Author.Needs.{needs}
-use Rattle.replay_disasm.proofs.opcode.all_nibbles.Statement.{statement}
-use Rattle.replay_disasm.proofs.opcode.all_nibbles.Tie as tie
+use Rattle.replay_words.proofs.opcode.all_nibbles.Statement.{statement}
+use Rattle.replay_words.proofs.opcode.all_nibbles.Tie as tie
 
 abbrev Inv-loop : tie.InvT-loop
 Inv-loop opcodes nibbles₀ i₀ nibbles i = i ≤ 13

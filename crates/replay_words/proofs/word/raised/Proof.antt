@@ -11,8 +11,8 @@ use mir.Facts.{sfits-widen}
 use mir.ValLaws.{toZ-ofZ}
 use borrow.Author.Needs.{needs}
 use borrow.Author.Tests.{le-ltb}
-use Rattle.replay_disasm.proofs.word.raised.Statement.{statement}
-use Rattle.replay_disasm.proofs.word.raised.Tie as tie
+use Rattle.replay_words.proofs.word.raised.Statement.{statement}
+use Rattle.replay_words.proofs.word.raised.Tie as tie
 
 abbrev raisedOf : ℤ → ℕ
 raisedOf (pos k) = k + 32768

@@ -1,15 +1,23 @@
-// Replays a list of records from standard input. Each has a question and the answer that the
-// original in Rust gave, and passes where the port gives the same. What is written is one line: how
-// many passed and how many failed.
+// Replays a list of records on words, listings, plans and single ticks from standard input. Each
+// has a question and the answer that the original in Rust gave, and passes where the port gives the
+// same. What is written is one line: how many passed and how many failed.
 mod listings;
+mod micro;
 mod opcode;
+mod plans;
 mod record;
+mod state;
 mod text;
 mod word;
 
+use answer::first;
+use answer::put_counts;
 use libc::STDIN_FILENO;
 use libc::STDOUT_FILENO;
 use replay::word_at;
+
+// Room for the line of the largest counts, of 57 bytes.
+const LINE: usize = 64;
 
 // What became of the next record: `End` where the list has no more.
 enum Verdict {
@@ -34,6 +42,10 @@ fn passes(record: &[u8]) -> bool {
         b'H' => text::hex_passes(record),
         b'P' => text::name_passes(record),
         b'L' => listings::passes(record),
+        b'T' => plans::word_passes(record),
+        b'F' => plans::phase_passes(record),
+        b'U' => plans::operation_passes(record),
+        b'M' => micro::passes(record),
         _ => false,
     }
 }
@@ -72,10 +84,9 @@ fn next_verdict(buffer: &mut [u8]) -> Verdict {
 
 // The line that the program writes.
 fn print_counts(passed: u64, failed: u64) {
-    io::print_decimal(STDOUT_FILENO, passed);
-    io::write_all(STDOUT_FILENO, b" passed, ");
-    io::print_decimal(STDOUT_FILENO, failed);
-    io::write_all(STDOUT_FILENO, b" failed\n");
+    let mut line = [0u8; LINE];
+    let n = put_counts(&mut line, passed, failed);
+    io::write_all(STDOUT_FILENO, first(&line, n));
 }
 
 // Counts the records to the list's end. A proved loop has to end, and nothing says that the input

@@ -2,8 +2,8 @@
 use Prim.Native.Nat.{_≤_, _-_}
 use native.Mathlib.Omega.{arith}
 use lib.ListN.{length}
-use Rattle.replay_disasm.proofs.listings.is_kept.Statement.{statement}
-use Rattle.replay_disasm.proofs.listings.is_kept.Tie as tie
+use Rattle.replay_words.proofs.listings.is_kept.Statement.{statement}
+use Rattle.replay_words.proofs.listings.is_kept.Tie as tie
 
 abbrev Inv-loop : tie.InvT-loop
 Inv-loop out i₀ i = i ≤ length out

@@ -116,7 +116,7 @@ fn put_text_and_phase(out: &mut [u8], before: Control, o: Operands) {
 }
 
 // What the counters grow by, a byte each.
-fn put_counts(out: &mut [u8], at: usize, t: Tick) {
+fn put_growth(out: &mut [u8], at: usize, t: Tick) {
     let none = Counters {
         instructions: 0,
         micro_operations: 0,
@@ -151,7 +151,7 @@ fn put_effects(out: &mut [u8], t: Tick) {
     put_number(out, 99, 4, transfer_number(bus));
     put_number(out, 103, 4, write_number(write));
     put_bytes(out, 107, &address);
-    put_counts(out, 108, t);
+    put_growth(out, 108, t);
     put_number(out, 112, 1, 1);
 }
 

@@ -4,8 +4,8 @@ use Prim.Native.Nat.{_+_, _<_, _^_}
 use mathlib.Core.Path.{_≡_}
 use lib.ListN.{length}
 use borrow.Author.Needs.{needs}
-use Rattle.replay_tick.proofs.replay.Statement.{statement}
-use Rattle.replay_tick.proofs.replay.Tie as tie
+use Rattle.replay_words.proofs.replay.Statement.{statement}
+use Rattle.replay_words.proofs.replay.Tie as tie
 
 abbrev Inv-loop : tie.InvT-loop
 Inv-loop buffer₀ passed₀ failed₀ turns₀ buffer passed failed turns =
