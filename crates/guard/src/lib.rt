@@ -1,13 +1,10 @@
-// What is tested before an instruction of a run, the marks of what is hidden, and which guarded runs are
-// refused: all that needs none of the machine's arrays, and so lays no condition on its caller.
+// What is tested before an instruction of a run, and which guarded runs are refused: all that needs none
+// of the machine's arrays, and so lays no condition on its caller.
 mod input;
-mod marks;
 mod stops;
 
 pub use input::guard_refusal;
 pub use input::zero_one;
-pub use marks::Marks;
-pub use marks::mark_instruction;
 pub use stops::GuardedStop;
 pub use stops::RunStop;
 pub use stops::RunVerdict;

@@ -3,7 +3,7 @@ ghost use mathlib.Core.Path.{_≡_};
 ghost use Prim.Native.Nat.{_-_};
 ghost use lib.Dec.{eqb};
 ghost use Rattle.tick.specs.Count.{overCounted};
-ghost use Rattle.guard.specs.Marks.{marked};
+ghost use Rattle.marks.specs.Marks.{marked};
 ghost use Rattle.guard.specs.Stops.{reached, haltStop, verdictIf, runVerdictOf, stopNumber, haltedStop, isJump, hiddenJump, guardIf, verdictOf};
 use encoding::contains;
 use isa::Decoded;

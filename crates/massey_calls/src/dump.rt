@@ -84,12 +84,12 @@ fn append_touched(out: &mut [u8], at: usize, m: Machine) -> usize {
 
 // The text in a slot of the trace, its live bytes alone. A length over 32 is cut: the next bytes are
 // another slot's.
-fn live_text(texts: &[u8], slot: usize, len: u8) -> &[u8] {
+fn live_text(columns: &[u8], slot: usize, len: u8) -> &[u8] {
     let from = slot % 512 * 32;
-    if from < texts.len() {
-        first(first(&texts[from..], 32), len as usize)
+    if from < columns.len() {
+        first(first(&columns[from..], 32), len as usize)
     } else {
-        texts
+        columns
     }
 }
 
@@ -117,10 +117,8 @@ fn append_ring(
     from: usize,
     start: usize,
     n: usize,
-    texts: &[u8],
+    columns: &[u8; 17408],
     numbers: &[u64; 512],
-    addresses: &[u8; 512],
-    phases: &[u8; 512],
     lengths: &[u8; 512],
 ) -> usize {
     let mut at = from;
@@ -130,14 +128,15 @@ fn append_ring(
             return at;
         }
         let slot = (start % 512 + i) % 512;
-        let text = live_text(texts, slot, lengths[slot]);
+        let len = lengths[slot];
+        let text = live_text(columns, slot, len);
         at = append_record(
             out,
             at,
             numbers[slot],
-            addresses[slot],
-            phases[slot],
-            lengths[slot],
+            columns[16384 + slot],
+            columns[16896 + slot],
+            len,
             text,
         );
         i += 1;
@@ -147,10 +146,8 @@ fn append_ring(
 
 // The trace, behind its count.
 fn append_trace(out: &mut [u8], at: usize, m: Machine) -> usize {
-    let texts = m.texts;
+    let columns = m.columns;
     let numbers = m.numbers;
-    let addresses = m.addresses;
-    let phases = m.phases;
     let lengths = m.lengths;
     let next = append_count(out, at, m.trace_len, 2);
     append_ring(
@@ -158,10 +155,8 @@ fn append_trace(out: &mut [u8], at: usize, m: Machine) -> usize {
         next,
         m.trace_start,
         m.trace_len,
-        &texts,
+        &columns,
         &numbers,
-        &addresses,
-        &phases,
         &lengths,
     )
 }

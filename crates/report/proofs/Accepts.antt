@@ -11,7 +11,7 @@ use lib.ListN.{length, getD, take, replicate, length-append, length-take, length
 use lib.Seq.{getD-take}
 use Rattle.tick.proofs.Lawfuls.{both}
 use Rattle.vm.specs.Calls.{imageWords}
-use Rattle.guard.specs.Marks.{marked}
+use Rattle.marks.specs.Marks.{marked}
 use Rattle.guard.specs.Input.{Input, zeroOne, inputRefusal}
 use Rattle.report.proofs.Levels.{Joins}
 use Rattle.report.specs.Public.{reportLimit, reportRefusal}

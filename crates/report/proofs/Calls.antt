@@ -16,7 +16,7 @@ use Rattle.trace.specs.Trace.{liveLengths, shortTexts}
 use Rattle.vm.specs.Refusal.{partsOk}
 use Rattle.vm.specs.Calls.{viewOf, isMachine}
 use Rattle.vm.specs.Machine.{Machine}
-use Rattle.guard.specs.Marks.{marked}
+use Rattle.marks.specs.Marks.{marked}
 use Rattle.vm.specs.Guard.{GuardedEnd, guardedOf}
 use Rattle.guard.specs.Input.{Input, inputRefusal}
 use Rattle.report.specs.declared.Reported.the-variants.{Refused}

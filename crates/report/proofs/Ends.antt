@@ -7,7 +7,7 @@ use mathlib.Core.Bool.{Bool}
 use mathlib.Core.List.{List, _∷_, _++_}
 use lib.ListN.{length, getD, replicate}
 use Rattle.vm.specs.Calls.{restarted, imageWords}
-use Rattle.guard.specs.Marks.{Marks}
+use Rattle.marks.specs.Marks.{Marks}
 use Rattle.vm.specs.Guard.{GuardedEnd, guardedStart}
 use Rattle.guard.specs.Stops.{stopNumber}
 use Rattle.report.proofs.Levels.{Twin, Twins, Public, publicOf, Level, LevelEnd}

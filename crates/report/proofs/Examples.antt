@@ -12,7 +12,7 @@ use Rattle.trace.specs.Trace.{pushed, liveTrace}
 use Rattle.vm.specs.Machine.{microStep}
 use Rattle.vm.specs.Instruction.{ticked, steps, stepInstruction}
 use Rattle.vm.specs.Calls.{restarted, imageWords}
-use Rattle.guard.specs.Marks.{marked}
+use Rattle.marks.specs.Marks.{marked}
 use Rattle.vm.specs.Guard.{guardedStart, guardedRun, guardedOf}
 use Rattle.guard.specs.Input.{Input, zeroOne, inputRefusal}
 use Rattle.report.specs.Report.{endRecord, controlBytes, countBytes, faultBytes, shown, reportBytes}

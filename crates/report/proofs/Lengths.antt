@@ -17,10 +17,11 @@ use Rattle.tick.specs.declared.counters.Counters.{Counters}
 use Rattle.trace.specs.declared.records.TraceRecord.{TraceRecord}
 use Rattle.vm.specs.Calls.{imageWords}
 use Rattle.vm.specs.Machine.{Machine}
-use Rattle.guard.specs.Marks.{Marks}
+use Rattle.marks.specs.Marks.{Marks}
 use Rattle.vm.specs.Guard.{guardedOf}
 use Rattle.guard.specs.Input.{Input}
 use Rattle.guard.specs.Stops.{stopNumber}
+use Rattle.trace.specs.Trace.{columnsLength}
 use Rattle.report.specs.Report.{startRecord, startRecords, byteRecord, byteRecords, traceBytes, traceRecord, noRecord, traceRecords, valueRecord, valueRecords, faultBytes, countBytes, controlBytes, endRecord, endRecords, endBytes, reportOn, reportBytes}
 use Rattle.report.specs.Slots.{slotBytes}
 use Rattle.report.specs.Public.{reportLimit, reportRefusal}
@@ -46,10 +47,10 @@ pub length-trace : (r : TraceRecord) → length (textOf (r .text)) ≤ 32 → le
 unfolding traceRecord
 length-trace r h = length-traceBytes (r .number) (r .address) (r .phase) (padded 32 (textOf (r .text))) (length-padded 32 (textOf (r .text)) h)
 
-pub length-slot : (x i a p : List ℕ) (k : ℕ) → length x ≡ 16384 → k < 512 → length (slotBytes x i a p k) ≡ 43
-length-slot x i a p k e h =
-    let l : 32 ≤ length (drop (k * 32) x) = simp length-drop (omega arith) in
-    length-traceBytes (getD i k 0) (getD a k 0) (getD p k 0) (take 32 (drop (k * 32) x)) (length-take-le 32 (drop (k * 32) x) l)
+pub length-slot : (k i : List ℕ) (j : ℕ) → length k ≡ columnsLength → j < 512 → length (slotBytes k i j) ≡ 43
+length-slot k i j e h =
+    let l : 32 ≤ length (drop (j * 32) k) = simp length-drop (omega arith) in
+    length-traceBytes (getD i j 0) (getD k (16384 + j) 0) (getD k (16896 + j) 0) (take 32 (drop (j * 32) k)) (length-take-le 32 (drop (j * 32) k) l)
 
 pub length-end : (hid : ℕ → Bool) (stop : ℕ) (s : State) (k : Counters) (mark : ℕ) → length (endRecord hid stop s k mark) ≡ 45
 unfolding endRecord controlBytes countBytes faultBytes bigEndian

@@ -8,7 +8,7 @@ use Rattle.tick.specs.declared.control.Fault.{Fault}
 use Rattle.tick.specs.declared.counters.Counters.{Counters}
 use Rattle.trace.specs.declared.records.TraceRecord.{TraceRecord}
 use Rattle.vm.specs.Machine.{Machine}
-use Rattle.guard.specs.Marks.{joined}
+use Rattle.marks.specs.Marks.{joined}
 use Rattle.vm.specs.Guard.{Guarded, GuardedEnd}
 
 -- two values under one mark, which are the same unless the mark hides them

@@ -13,7 +13,7 @@ use Rattle.trace.specs.Touched.{noted}
 use Rattle.vm.specs.Machine.{microStep}
 use Rattle.vm.specs.Instruction.{ticked, steps, stepInstruction}
 use Rattle.vm.specs.Calls.{restarted, imageWords}
-use Rattle.guard.specs.Marks.{marked, instructionMarks}
+use Rattle.marks.specs.Marks.{marked, instructionMarks}
 use Rattle.vm.specs.Guard.{guardedStart, guardedRun, guardedOf}
 use Rattle.guard.specs.Input.{Input, zeroOne, inputRefusal}
 use Rattle.report.specs.Report.{reportBytes}

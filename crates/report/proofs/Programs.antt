@@ -12,7 +12,7 @@ use lib.Seq.{length-take-le, getD-drop}
 use Rattle.encoding.specs.Bytes.{within, numbers, readNumber, readWords}
 use Rattle.encoding.proofs.Numbers.{length-numbers, number-below}
 use Rattle.history.proofs.Parts.{words-inside}
-use Rattle.guard.specs.Marks.{marked}
+use Rattle.marks.specs.Marks.{marked}
 use Rattle.guard.specs.Input.{zeroOne, inputRefusal}
 use Rattle.report.specs.declared.Reported.the-variants.{Written, Refused}
 use Rattle.report.specs.Report.{reportBytes}

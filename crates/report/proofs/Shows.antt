@@ -16,7 +16,7 @@ use Rattle.disasm.proofs.Texts.{disassembly-padded}
 use Rattle.tick.specs.declared.counters.Counters.{Counters}
 use Rattle.tick.specs.declared.control.Fault.{Fault}
 use Rattle.tick.specs.declared.control.Fault.the-variants.{Healthy, UnknownInstruction, StepBudgetExhausted}
-use Rattle.guard.specs.Marks.{marked}
+use Rattle.marks.specs.Marks.{marked}
 use Rattle.report.proofs.Levels.{Twin}
 use Rattle.report.specs.Report.{headRecord, byteRecord, shown, shownText, valueRecord, startRecord, faultBytes, countBytes, controlBytes}
 use Rattle.report.proofs.Cut.{append-cut, number-same}

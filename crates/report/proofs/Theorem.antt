@@ -8,7 +8,7 @@ use lib.ListN.{length, getD, replicate}
 use lib.Seq.{ext-getD}
 use Rattle.encoding.specs.Bytes.{bigEndian, number, readNumber}
 use Rattle.vm.specs.Calls.{imageWords}
-use Rattle.guard.specs.Marks.{marked}
+use Rattle.marks.specs.Marks.{marked}
 use Rattle.vm.specs.Guard.{guardedStart, guardedRun, guardedOf}
 use Rattle.guard.specs.Input.{Input, zeroOne, inputRefusal}
 use Rattle.report.proofs.Levels.{Twin, Level}

@@ -12,9 +12,9 @@ use Rattle.isa.specs.Text.{padded, textOf}
 use Rattle.vm.specs.declared.machine.Machine.{Machine as Code}
 use Rattle.trace.specs.declared.records.TraceRecord.{TraceRecord}
 use Rattle.vm.specs.Calls.{viewOf}
-use Rattle.guard.specs.Marks.{marked}
-use Rattle.trace.specs.Trace.{slots, turn, recordAt, liveTrace}
-use Rattle.trace.proofs.Rings.{length-slots}
+use Rattle.marks.specs.Marks.{marked}
+use Rattle.trace.specs.Trace.{slots, turn, recordAt, liveTrace, textsIn, addressesIn, phasesIn, columnsLength}
+use Rattle.trace.proofs.Rings.{length-slots, column-at, text-at}
 use Rattle.vm.proofs.Newest.{getD-slots, getD-turn, trace-length}
 use Rattle.report.specs.Report.{traceBytes, traceRecord, noRecord, traceRecords, valueRecords, byteRecords, endRecord, endRecords}
 use Rattle.report.specs.Slots.{slotBytes, slotRecords, Reportable}
@@ -31,30 +31,31 @@ live-at start n x i a p l j h k =
     ∙ getD-slots 512 ((start % 512 + j) % 512) (recordAt x i a p l) noRecord (omega arith)
 
 -- the bytes of a slot are those of its record, where zeros stand behind its text
-slot-record : (x i a p l : List ℕ) (k : ℕ) (r : TraceRecord) → r ≡ recordAt x i a p l k → padded 32 (textOf (r .text)) ≡ r .text .bytes → slotBytes x i a p k ≡ traceRecord r
+slot-record : (k i l : List ℕ) (j : ℕ) (r : TraceRecord) → j < 512 → length k ≡ columnsLength → r ≡ recordAt (textsIn k) i (addressesIn k) (phasesIn k) l j → padded 32 (textOf (r .text)) ≡ r .text .bytes → slotBytes k i j ≡ traceRecord r
 unfolding traceRecord
-slot-record x i a p l k r e z =
-    ap (λ (q : TraceRecord). traceBytes (q .number) (q .address) (q .phase) (q .text .bytes)) (sym e)
+slot-record k i l j r h long e z =
+    (λ y. traceBytes (getD i j 0) (sym (column-at k 16384 j h) y) (sym (column-at k 16896 j h) y) (sym (text-at k j h (omega arith)) y))
+    ∙ ap (λ (q : TraceRecord). traceBytes (q .number) (q .address) (q .phase) (q .text .bytes)) (sym e)
     ∙ ap (λ (y : List ℕ). traceBytes (r .number) (r .address) (r .phase) y) (sym z)
 
 abbrev slotsOf : Code → List ℕ
-slotsOf m = slotRecords (m .«trace_start») (m .«trace_len») (m .texts) (m .numbers) (m .addresses) (m .phases)
+slotsOf m = slotRecords (m .«trace_start») (m .«trace_len») (m .columns) (m .numbers)
 
-trace-slots : (m : Code) → Reportable m → slotsOf m ≡ traceRecords (viewOf m .trace)
+trace-slots : (m : Code) → Reportable m → length (m .columns) ≡ columnsLength → slotsOf m ≡ traceRecords (viewOf m .trace)
 unfolding slotRecords traceRecords
-trace-slots m r =
+trace-slots m r long =
     let t = viewOf m .trace in
-    let at : (j : ℕ) → j < m .«trace_len» → getD t j noRecord ≡ recordAt (m .texts) (m .numbers) (m .addresses) (m .phases) (m .lengths) ((m .«trace_start» % 512 + j) % 512) =
-    λ j h. live-at (m .«trace_start») (m .«trace_len») (m .texts) (m .numbers) (m .addresses) (m .phases) (m .lengths) j (r .trace) h in
-    each-same (λ j. slotBytes (m .texts) (m .numbers) (m .addresses) (m .phases) ((m .«trace_start» % 512 + j) % 512)) (λ j. traceRecord (getD t j noRecord)) 0 (m .«trace_len»)
-    (λ j h. slot-record (m .texts) (m .numbers) (m .addresses) (m .phases) (m .lengths) ((m .«trace_start» % 512 + j) % 512) (getD t j noRecord) (at j (omega arith)) (r .texts j))
-    ∙ ap (λ (n : ℕ). eachFrom (λ j. traceRecord (getD t j noRecord)) 0 n) (sym (trace-length (m .«trace_start») (m .«trace_len») (m .texts) (m .numbers) (m .addresses) (m .phases) (m .lengths) (r .trace)))
+    let at : (j : ℕ) → j < m .«trace_len» → getD t j noRecord ≡ recordAt (textsIn (m .columns)) (m .numbers) (addressesIn (m .columns)) (phasesIn (m .columns)) (m .lengths) ((m .«trace_start» % 512 + j) % 512) =
+    λ j h. live-at (m .«trace_start») (m .«trace_len») (textsIn (m .columns)) (m .numbers) (addressesIn (m .columns)) (phasesIn (m .columns)) (m .lengths) j (r .trace) h in
+    each-same (λ j. slotBytes (m .columns) (m .numbers) ((m .«trace_start» % 512 + j) % 512)) (λ j. traceRecord (getD t j noRecord)) 0 (m .«trace_len»)
+    (λ j h. slot-record (m .columns) (m .numbers) (m .lengths) ((m .«trace_start» % 512 + j) % 512) (getD t j noRecord) (omega arith) long (at j (omega arith)) (r .texts j))
+    ∙ ap (λ (n : ℕ). eachFrom (λ j. traceRecord (getD t j noRecord)) 0 n) (sym (trace-length (m .«trace_start») (m .«trace_len») (textsIn (m .columns)) (m .numbers) (addressesIn (m .columns)) (phasesIn (m .columns)) (m .lengths) (r .trace)))
 
-length-slots-of : (m : Code) → length (m .texts) ≡ 16384 → length (slotsOf m) ≡ 43 * m .«trace_len»
+length-slots-of : (m : Code) → length (m .columns) ≡ columnsLength → length (slotsOf m) ≡ 43 * m .«trace_len»
 unfolding slotRecords
 length-slots-of m e =
-    length-each 43 (λ j. slotBytes (m .texts) (m .numbers) (m .addresses) (m .phases) ((m .«trace_start» % 512 + j) % 512)) 0 (m .«trace_len»)
-    (λ j. length-slot (m .texts) (m .numbers) (m .addresses) (m .phases) ((m .«trace_start» % 512 + j) % 512) e (omega arith))
+    length-each 43 (λ j. slotBytes (m .columns) (m .numbers) ((m .«trace_start» % 512 + j) % 512)) 0 (m .«trace_len»)
+    (λ j. length-slot (m .columns) (m .numbers) ((m .«trace_start» % 512 + j) % 512) e (omega arith))
 
 module _ (m : Code) (r : Reportable m) (stop mark : ℕ) (rm mm : List ℕ) where
   abbrev cells : List ℕ
@@ -64,9 +65,9 @@ module _ (m : Code) (r : Reportable m) (stop mark : ℕ) (rm mm : List ℕ) wher
   last = byteRecords 7 (take (m .«touched_len») (m .touched)) ++ endRecord marked stop (m .state) (m .counters) mark
 
   -- the pieces in one
-  run-bytes : slotsOf m ++ (cells ++ last) ≡ endRecords marked stop (viewOf m) (record { memory = mm; registers = rm; mdr = mark })
+  run-bytes : length (m .columns) ≡ columnsLength → slotsOf m ++ (cells ++ last) ≡ endRecords marked stop (viewOf m) (record { memory = mm; registers = rm; mdr = mark })
   unfolding endRecords
-  run-bytes = rw (trace-slots m r, append-assoc (valueRecords marked 5 16 (m .registers) rm))
+  run-bytes e = rw (trace-slots m r e, append-assoc (valueRecords marked 5 16 (m .registers) rm))
 
   pub length-cells : length cells ≡ 1360
   length-cells = simp (length-append, length-values marked 5 16 (m .registers) rm, length-values marked 6 256 (m .memory) mm)
@@ -78,17 +79,17 @@ module _ (m : Code) (r : Reportable m) (stop mark : ℕ) (rm mm : List ℕ) wher
       simp (length-append, length-bytes 7 (take (m .«touched_len») (m .touched)), l, length-end marked stop (m .state) (m .counters) mark)
 
   -- as the three calls leave them
-  pub run-over : (d : List ℕ) (at : ℕ) → length (m .texts) ≡ 16384 → length (m .touched) ≡ 256 → at + (43 * m .«trace_len» + (1360 + (2 * m .«touched_len» + 45))) ≤ length d
+  pub run-over : (d : List ℕ) (at : ℕ) → length (m .columns) ≡ columnsLength → length (m .touched) ≡ 256 → at + (43 * m .«trace_len» + (1360 + (2 * m .«touched_len» + 45))) ≤ length d
       → over (over (over d at (slotsOf m)) (at + 43 * m .«trace_len») cells) (at + 43 * m .«trace_len» + 1360) last
       ≡ over d at (endRecords marked stop (viewOf m) (record { memory = mm; registers = rm; mdr = mark }))
   run-over d at e f h =
       overs-eq d at ((43 * m .«trace_len», slotsOf m) ∷ (1360, cells) ∷ (2 * m .«touched_len» + 45, last) ∷ [])
       (length-slots-of m e, (length-cells, (length-last f, tt))) (omega arith)
-      ∙ ap (over d at) run-bytes
+      ∙ ap (over d at) (run-bytes e)
 
-  pub length-run : length (m .texts) ≡ 16384 → length (m .touched) ≡ 256
+  pub length-run : length (m .columns) ≡ columnsLength → length (m .touched) ≡ 256
       → length (endRecords marked stop (viewOf m) (record { memory = mm; registers = rm; mdr = mark })) ≡ 43 * m .«trace_len» + (1360 + (2 * m .«touched_len» + 45))
   length-run e f =
-      ap length (sym run-bytes)
+      ap length (sym (run-bytes e))
       ∙ length-joined ((43 * m .«trace_len», slotsOf m) ∷ (1360, cells) ∷ (2 * m .«touched_len» + 45, last) ∷ []) (length-slots-of m e, (length-cells, (length-last f, tt)))
       ∙ omega arith

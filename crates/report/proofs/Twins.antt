@@ -7,7 +7,7 @@ use mathlib.Core.Path.{_≡_, refl, ap, ap₂}
 use mathlib.Core.Bool.{Bool}
 use mathlib.Core.List.{List, [], _∷_}
 use lib.ListN.{length, getD, set}
-use Rattle.guard.specs.Marks.{joined}
+use Rattle.marks.specs.Marks.{joined}
 use Rattle.report.proofs.Levels.{Twin, Twins, nil, cons, Joins}
 
 module _ {hid : ℕ → Bool} where

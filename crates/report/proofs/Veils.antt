@@ -17,7 +17,7 @@ use Rattle.tick.specs.Tick.{executeTick, sum16, negate16, right16, left16}
 use Rattle.tick.specs.Count.{countTick}
 use Rattle.vm.specs.Machine.{Machine}
 use Rattle.vm.specs.Instruction.{stepInstruction}
-use Rattle.guard.specs.Marks.{Marks, mdrMarked, executedMarks, instructionMarks}
+use Rattle.marks.specs.Marks.{Marks, mdrMarked, executedMarks, instructionMarks}
 use Rattle.vm.specs.Guard.{Guarded, nextWord, guardedStep}
 use Rattle.guard.specs.Stops.{isJump, hiddenJump}
 use Rattle.report.proofs.Levels.{Twin, Twins, Public, publicOf, Level, Joins}

@@ -10,7 +10,7 @@ use Rattle.encoding.proofs.Written.{over-over, length-joined}
 use Rattle.vm.specs.declared.machine.Machine.{Machine as Code}
 use Rattle.guard.specs.declared.stops.GuardedStop.{GuardedStop}
 use Rattle.vm.specs.Calls.{viewOf, imageWords}
-use Rattle.guard.specs.Marks.{marked}
+use Rattle.marks.specs.Marks.{marked}
 use Rattle.vm.specs.Guard.{GuardedEnd}
 use Rattle.guard.specs.Input.{Input}
 use Rattle.guard.specs.Stops.{stopNumber}
@@ -19,6 +19,7 @@ use Rattle.report.specs.Slots.{Reportable, endFrom}
 use Rattle.report.specs.Outcome.{written, served}
 use Rattle.report.proofs.Shows.{length-head}
 use Rattle.report.proofs.Lengths.{length-starts, length-bytes}
+use Rattle.trace.specs.Trace.{columnsLength}
 use Rattle.report.proofs.Traces.{length-run}
 
 abbrev inputBytes : Input → List ℕ
@@ -49,7 +50,7 @@ module _ (i : Input) (stop : GuardedStop) (m : Code) (r : Reportable m) (rm mm :
   abbrev ended : GuardedEnd
   ended = endFrom stop m rm mm mark
 
-  pub whole-served : length (m .texts) ≡ 16384 → length (m .touched) ≡ 256 → 9485 + 2 * length (i .breaks) ≤ length d → {n : ℕ} {o : List ℕ}
+  pub whole-served : length (m .columns) ≡ columnsLength → length (m .touched) ≡ 256 → 9485 + 2 * length (i .breaks) ≤ length d → {n : ℕ} {o : List ℕ}
       → n ≡ 9485 + 2 * length (i .breaks) + 43 * m .«trace_len» + 1360 + 2 * m .«touched_len» + 45
       → o ≡ over (over d 0 (inputBytes i)) (9485 + 2 * length (i .breaks)) (endRecords marked (stopNumber stop) (viewOf m) (record { memory = mm; registers = rm; mdr = mark }))
       → written n o ≡ served (reportOn marked i ended) d

@@ -7,7 +7,7 @@ use mathlib.Core.List.{List}
 use lib.Dec.{eqb, ltb}
 use lib.ListN.{length, take, drop}
 use Rattle.encoding.specs.Bytes.{within, numbers, readNumber}
-use Rattle.guard.specs.Marks.{marked}
+use Rattle.marks.specs.Marks.{marked}
 use Rattle.guard.specs.Input.{Input, zeroOne}
 use Rattle.report.specs.Report.{reportBytes}
 use Rattle.report.specs.Public.{reportLimit}

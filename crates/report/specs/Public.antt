@@ -6,7 +6,7 @@ use mathlib.Core.Bool.{false, cond}
 use lib.Dec.{eqb, ltb}
 use lib.ListN.{length, getD}
 use Rattle.vm.specs.Calls.{imageWords}
-use Rattle.guard.specs.Marks.{marked}
+use Rattle.marks.specs.Marks.{marked}
 use Rattle.guard.specs.Input.{Input, inputRefusal}
 
 -- no report is longer

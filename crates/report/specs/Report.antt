@@ -14,7 +14,7 @@ use Rattle.history.specs.Record.{codeOf}
 use Rattle.trace.specs.declared.records.TraceRecord.{TraceRecord}
 use Rattle.vm.specs.Machine.{Machine}
 use Rattle.vm.specs.Calls.{imageWords}
-use Rattle.guard.specs.Marks.{Marks}
+use Rattle.marks.specs.Marks.{Marks}
 use Rattle.vm.specs.Guard.{GuardedEnd, guardedOf}
 use Rattle.guard.specs.Input.{Input}
 use Rattle.guard.specs.Stops.{stopNumber}

@@ -13,13 +13,13 @@ use Rattle.vm.specs.Guard.{GuardedEnd}
 use Rattle.guard.specs.Input.{Input}
 use Rattle.report.specs.Report.{traceBytes, noRecord}
 
--- the record in slot k: texts, numbers, addresses, phases
-abbrev pub slotBytes : List ℕ → List ℕ → List ℕ → List ℕ → ℕ → List ℕ
-slotBytes x i a p k = traceBytes (getD i k 0) (getD a k 0) (getD p k 0) (take 32 (drop (k * 32) x))
+-- the record in slot j: columns of bytes (address and phase each in its own), numbers
+abbrev pub slotBytes : List ℕ → List ℕ → ℕ → List ℕ
+slotBytes k i j = traceBytes (getD i j 0) (getD k (16384 + j) 0) (getD k (16896 + j) 0) (take 32 (drop (j * 32) k))
 
 -- n records, the oldest in slot start modulo 512
-unfoldable pub slotRecords : ℕ → ℕ → List ℕ → List ℕ → List ℕ → List ℕ → List ℕ
-slotRecords start n x i a p = eachFrom (λ j. slotBytes x i a p ((start % 512 + j) % 512)) 0 n
+unfoldable pub slotRecords : ℕ → ℕ → List ℕ → List ℕ → List ℕ
+slotRecords start n k i = eachFrom (λ j. slotBytes k i ((start % 512 + j) % 512)) 0 n
 
 -- its counts are within its arrays, and each text has zeros behind its live bytes
 pub record Reportable (m : Code) : Type 0 where

@@ -4,7 +4,7 @@ ghost use mathlib.Core.List.{[], _∷_};
 ghost use Prim.Native.Nat.{_+_, _≤_};
 ghost use lib.ListN.{length};
 ghost use Rattle.encoding.specs.Bytes.{over};
-ghost use Rattle.guard.specs.Marks.{marked};
+ghost use Rattle.marks.specs.Marks.{marked};
 ghost use Rattle.report.specs.Report.{headRecord, shown, shownText, valueRecord, startRecord, traceBytes, faultBytes, countBytes, controlBytes, endRecord};
 use disasm::disassemble_into;
 use encoding::put_bytes;

@@ -3,8 +3,9 @@ ghost use mathlib.Core.Path.{_≡_};
 ghost use Prim.Native.Nat.{_+_, _*_, _≤_};
 ghost use lib.ListN.{length, getD};
 ghost use Rattle.encoding.specs.Bytes.{over};
+ghost use Rattle.trace.specs.Trace.{columnsLength};
 ghost use Rattle.vm.specs.Calls.{imageWords};
-ghost use Rattle.guard.specs.Marks.{marked};
+ghost use Rattle.marks.specs.Marks.{marked};
 ghost use Rattle.report.specs.Report.{startRecords, byteRecords, valueRecords};
 ghost use Rattle.report.specs.Slots.{slotRecords};
 use crate::records::put_byte;
@@ -53,13 +54,11 @@ pub(crate) fn put_trace(
     at: usize,
     start: usize,
     n: usize,
-    texts: &[u8],
+    columns: &[u8],
     numbers: &[u64],
-    addresses: &[u8],
-    phases: &[u8],
 )
-    requires { ⌜ (at + 43 * n ≤ length (now out)) × (length (now texts) ≡ 16384) × (length (now numbers) ≡ 512) × (length (now addresses) ≡ 512) × (length (now phases) ≡ 512) ⌝ }
-    ensures { λ _. ⌜ now (out .exit) ≡ over (now (out .entry)) at (slotRecords start n (now (texts .entry)) (now (numbers .entry)) (now (addresses .entry)) (now (phases .entry))) ⌝ }
+    requires { ⌜ (at + 43 * n ≤ length (now out)) × (length (now columns) ≡ columnsLength) × (length (now numbers) ≡ 512) ⌝ }
+    ensures { λ _. ⌜ now (out .exit) ≡ over (now (out .entry)) at (slotRecords start n (now (columns .entry)) (now (numbers .entry))) ⌝ }
 {
     let from = start % 512;
     let mut i = 0;
@@ -71,9 +70,9 @@ pub(crate) fn put_trace(
             out,
             at + 43 * i,
             numbers[slot],
-            addresses[slot],
-            phases[slot],
-            &texts[first..last],
+            columns[16384 + slot],
+            columns[16896 + slot],
+            &columns[first..last],
         );
         i += 1;
     }

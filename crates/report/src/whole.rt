@@ -5,7 +5,7 @@ ghost use Prim.Native.Nat.{_+_, _*_, _≤_};
 ghost use lib.ListN.{length};
 ghost use Rattle.encoding.specs.Bytes.{over};
 ghost use Rattle.vm.specs.Calls.{viewOf, imageWords};
-ghost use Rattle.guard.specs.Marks.{marked};
+ghost use Rattle.marks.specs.Marks.{marked};
 ghost use Rattle.report.specs.Report.{headRecord, startRecords, byteRecords, valueRecords, endRecord, endRecords, reportOn};
 ghost use Rattle.report.specs.Slots.{Reportable, inputFrom, endFrom};
 ghost use Rattle.report.specs.Public.{reportLimit};
@@ -80,25 +80,14 @@ fn put_run(
     let start = machine.trace_start;
     let traced = machine.trace_len;
     let written = machine.touched_len;
-    let texts = machine.texts;
+    let columns = machine.columns;
     let numbers = machine.numbers;
-    let addresses = machine.addresses;
-    let phases = machine.phases;
     let registers = machine.registers;
     let memory = machine.memory;
     let touched = machine.touched;
     let state = machine.state;
     let counters = machine.counters;
-    put_trace(
-        out,
-        at,
-        start,
-        traced,
-        &texts,
-        &numbers,
-        &addresses,
-        &phases,
-    );
+    put_trace(out, at, start, traced, &columns, &numbers);
     let second = at + 43 * traced;
     put_cells(
         out,

@@ -10,10 +10,10 @@ use mathlib.Core.Bool.{Bool, true, false, cond}
 use mathlib.Core.List.{List, [], _∷_, _++_, append-assoc, append-nil}
 use borrow.Author.Tests.{lt-ltb, le-ltb}
 use lib.Dec.{ltb}
-use lib.ListN.{length, take, drop, set, length-append, length-take, length-drop, length-set, drop-of-length-le, take-append-drop}
-use lib.Seq.{drop-cons, drop-set-add, take-set-le, set-append-left, drop-set-lt, take-set-lt, take-suc-set, take-all, set-split, getD-set-same, getD-set-other, take-at, drop-at, drop-drop, take-append-le, drop-append-le, length-take-le}
+use lib.ListN.{length, take, drop, getD, set, length-append, length-take, length-drop, length-set, drop-of-length-le, take-append-drop}
+use lib.Seq.{getD-take, getD-drop, take-take, take-add, take-append-add, drop-cons, drop-set-add, take-set-le, set-append-left, drop-set-lt, take-set-lt, take-suc-set, take-all, set-split, getD-set-same, getD-set-other, take-at, drop-at, drop-drop, take-append-le, drop-append-le, length-take-le}
 use Rattle.trace.specs.declared.records.TraceRecord.{TraceRecord}
-use Rattle.trace.specs.Trace.{pushed, slots, turn, recordAt, liveTrace, liveLengths, shortTexts, pasted, TraceFit, Arrays, live, ArraysFit, slotOf, nextRing, pushInto}
+use Rattle.trace.specs.Trace.{pushed, slots, turn, recordAt, liveTrace, liveLengths, shortTexts, pasted, column, textsIn, addressesIn, phasesIn, columnsLength, Arrays, liveIn, live, TraceFit, ArraysFit, slotOf, nextRing, putColumns, pushInto}
 use Rattle.trace.proofs.Lists.{pick-true}
 
 module _ {A : Type 0} where
@@ -160,8 +160,19 @@ short-pushed l n s h = go (ltb (length l) 512)
     go true = short-snoc l n s h
     go false = short-snoc (drop 1 l) n (short-tail l s) h
 
--- ---- the whole push, on the five arrays
-module _ (x i a p l : List ℕ) (start n : ℕ) (e : TraceRecord) (f : TraceFit start n x i a p l) (lb : length (e .text .bytes) ≡ 32) (small : e .text .len ≤ 32) where
+-- ---- the whole push, on the five columns
+
+-- what they are between two ticks: texts, numbers, addresses, phases, lengths
+record ColumnsFit (start n : ℕ) (x i a p l : List ℕ) : Type 0 where
+  count : n ≤ 512
+  texts : length x ≡ 16384
+  numbers : length i ≡ 512
+  addresses : length a ≡ 512
+  phases : length p ≡ 512
+  lengths : length l ≡ 512
+  short : shortTexts (liveLengths start n l) ≡ true
+
+module _ (x i a p l : List ℕ) (start n : ℕ) (e : TraceRecord) (f : ColumnsFit start n x i a p l) (lb : length (e .text .bytes) ≡ 32) (small : e .text .len ≤ 32) where
   abbrev at : ℕ
   at = (start % 512 + n) % 512
 
@@ -182,7 +193,7 @@ module _ (x i a p l : List ℕ) (start n : ℕ) (e : TraceRecord) (f : TraceFit 
       rw (getD-set-other i at j (e .number) 0 ne, getD-set-other a at j (e .address) 0 ne, getD-set-other p at j (e .phase) 0 ne, getD-set-other l at j (e .text .len) 0 ne, kept x (e .text .bytes) at (f .texts) lb (omega arith) j hj ne))
 
   abbrev Fits : ℕ → ℕ → Type 0
-  Fits s k = TraceFit s k x' (set i at (e .number)) (set a at (e .address)) (set p at (e .phase)) (set l at (e .text .len))
+  Fits s k = ColumnsFit s k x' (set i at (e .number)) (set a at (e .address)) (set p at (e .phase)) (set l at (e .text .len))
 
   fits : (s k : ℕ) → k ≤ 512 → liveLengths s k (set l at (e .text .len)) ≡ pushed (e .text .len) (liveLengths start n l) → Fits s k
   fits s k h z = record {
@@ -214,6 +225,104 @@ module _ (x i a p l : List ℕ) (start n : ℕ) (e : TraceRecord) (f : TraceFit 
         fits ((start % 512 + 1) % 512) n (f .count) (rw m (over l (start % 512) n (e .text .len) (f .lengths) (omega arith) h)),
       )
 
+-- ---- the columns of bytes in one array
+
+-- a byte written into a column, and one written into another
+in-column : (c : List ℕ) (at k v : ℕ) → k < 512 → column at (set c (at + k) v) ≡ set (column at c) k v
+unfolding column
+in-column c at k v h = rw (drop-set-add, take-set-lt 512 (drop at c) k v h)
+
+before-column : (c : List ℕ) (at j v : ℕ) → j < at → column at (set c j v) ≡ column at c
+unfolding column
+before-column c at j v h = rw (drop-set-lt at c j v h)
+
+behind-column : (c : List ℕ) (at j v : ℕ) → at + 512 ≤ j → column at (set c j v) ≡ column at c
+unfolding column
+behind-column c at j v h =
+    let e : at + (j - at) ≡ j = omega arith in
+    rw (← e, drop-set-add, take-set-le 512 (drop at c) (j - at) v (omega arith))
+
+behind-texts : (c : List ℕ) (j v : ℕ) → 16384 ≤ j → textsIn (set c j v) ≡ textsIn c
+unfolding textsIn
+behind-texts c j v h = take-set-le 16384 c j v h
+
+pub length-column : (c : List ℕ) (at : ℕ) → at + 512 ≤ length c → length (column at c) ≡ 512
+unfolding column
+length-column c at h = length-take-le 512 (drop at c) (simp length-drop (omega arith))
+
+pub length-texts : (c : List ℕ) → 16384 ≤ length c → length (textsIn c) ≡ 16384
+unfolding textsIn
+length-texts c h = length-take-le 16384 c h
+
+-- what stands in a slot
+pub column-at : (c : List ℕ) (at k : ℕ) → k < 512 → getD (column at c) k 0 ≡ getD c (at + k) 0
+unfolding column
+column-at c at k h = rw (getD-take 512 (drop at c) k 0 h, getD-drop)
+
+pub text-at : (c : List ℕ) (k : ℕ) → k < 512 → 16384 ≤ length c → take 32 (drop (k * 32) (textsIn c)) ≡ take 32 (drop (k * 32) c)
+unfolding textsIn
+text-at c k h long =
+    let a = take 16384 c in
+    let l : length a ≡ 16384 = length-take-le 16384 c long in
+    sym (front a (drop 16384 c) (k * 32) 32 (omega (arith, l))) ∙ rw take-append-drop
+
+-- a text written among the texts
+module _ (c b : List ℕ) (k : ℕ) (long : length c ≡ columnsLength) (full : length b ≡ 32) (hk : k < 512) where
+  abbrev front-part : List ℕ
+  front-part = take (k * 32) c ++ b
+
+  front-long : length front-part ≡ k * 32 + length b
+  front-long = simp (length-append, length-take-le (k * 32) c (omega arith))
+
+  -- behind it all is kept
+  drop-pasted : (n : ℕ) → k * 32 + 32 ≤ n → drop n (pasted c (k * 32) b) ≡ drop n c
+  drop-pasted n h =
+      let w : k * 32 + length b + (n - (k * 32 + 32)) ≡ n = omega arith in
+      ap (λ (m : ℕ). drop m (pasted c (k * 32) b)) (sym w)
+      ∙ sym (drop-drop (n - (k * 32 + 32)) (k * 32 + length b) (pasted c (k * 32) b))
+      ∙ ap (drop (n - (k * 32 + 32))) (drop-at front-part (drop (k * 32 + length b) c) (k * 32 + length b) front-long)
+      ∙ drop-drop (n - (k * 32 + 32)) (k * 32 + length b) c
+      ∙ ap (λ (m : ℕ). drop m c) w
+
+  column-pasted : (at : ℕ) → k * 32 + 32 ≤ at → column at (pasted c (k * 32) b) ≡ column at c
+  unfolding column
+  column-pasted at h = ap (take 512) (drop-pasted at h)
+
+  texts-pasted : textsIn (pasted c (k * 32) b) ≡ pasted (textsIn c) (k * 32) b
+  unfolding textsIn
+  texts-pasted =
+      let n = k * 32 + length b in
+      let w : length front-part + (16384 - n) ≡ 16384 = omega (arith, front-long) in
+      let v : n + (16384 - n) ≡ 16384 = omega arith in
+      let d : drop n (take 16384 c) ≡ take (16384 - n) (drop n c) =
+      ap (λ (m : ℕ). drop n (take m c)) (sym v)
+      ∙ ap (drop n) (take-add n (16384 - n) c)
+      ∙ drop-at (take n c) (take (16384 - n) (drop n c)) n (length-take-le n c (omega arith)) in
+      ap (λ (m : ℕ). take m (pasted c (k * 32) b)) (sym w)
+      ∙ take-append-add front-part (drop n c) (16384 - n)
+      ∙ rw (take-take (k * 32) 16384 c (omega arith), d)
+
+-- a record's bytes in the columns are its bytes in each
+module _ (e : TraceRecord) (k : ℕ) (c : List ℕ) (long : length c ≡ columnsLength) (full : length (e .text .bytes) ≡ 32) (hk : k < 512) where
+  abbrev b : List ℕ
+  b = e .text .bytes
+
+  put-texts : textsIn (putColumns e k c) ≡ pasted (textsIn c) (k * 32) b
+  unfolding putColumns
+  put-texts = rw (behind-texts _ (16896 + k) _ (omega arith), behind-texts _ (16384 + k) _ (omega arith)) (texts-pasted c b k long full hk)
+
+  put-addresses : addressesIn (putColumns e k c) ≡ set (addressesIn c) k (e .address)
+  unfolding putColumns
+  put-addresses = rw (behind-column _ 16384 (16896 + k) _ (omega arith), in-column _ 16384 k _ hk, column-pasted c b k long full hk 16384 (omega arith))
+
+  put-phases : phasesIn (putColumns e k c) ≡ set (phasesIn c) k (e .phase)
+  unfolding putColumns
+  put-phases = rw (in-column _ 16896 k _ hk, before-column _ 16896 (16384 + k) _ (omega arith), column-pasted c b k long full hk 16896 (omega arith))
+
+  length-put : length (putColumns e k c) ≡ columnsLength
+  unfolding putColumns
+  length-put = simp length-set (length-pasted c (k * 32) b (omega arith) ∙ long)
+
 -- a record written into its slot is the live records with one more
 pub pushed-live : (e : TraceRecord) (q : Arrays) {q' : Arrays} → q' ≡ pushInto e q → length (e .text .bytes) ≡ 32 → e .text .len ≤ 32 → ArraysFit q
     → (live q' ≡ pushed e (live q)) × ArraysFit q'
@@ -223,8 +332,30 @@ pushed-live e q eq lb small f = rw eq (go (decLt (q .ring .len) 512))
     at : slotOf (q .ring) ≡ (q .ring .start % 512 + q .ring .len) % 512
     at = omega arith
 
+    hk : slotOf (q .ring) < 512
+    hk = omega arith
+
+    cf : ColumnsFit (q .ring .start) (q .ring .len) (textsIn (q .columns)) (q .numbers) (addressesIn (q .columns)) (phasesIn (q .columns)) (q .lengths)
+    cf = record {
+      count = f .count;
+      texts = length-texts (q .columns) (omega (arith, f .columns));
+      numbers = f .numbers;
+      addresses = length-column (q .columns) 16384 (omega (arith, f .columns));
+      phases = length-column (q .columns) 16896 (omega (arith, f .columns));
+      lengths = f .lengths;
+      short = f .short;
+    }
+
+    -- the same of the columns of one array
+    joined : (s n : ℕ) → Pushes (textsIn (q .columns)) (q .numbers) (addressesIn (q .columns)) (phasesIn (q .columns)) (q .lengths) (q .ring .start) (q .ring .len) e cf lb small s n
+        → (liveIn s n (putColumns e (slotOf (q .ring)) (q .columns)) (set (q .numbers) (slotOf (q .ring)) (e .number)) (set (q .lengths) (slotOf (q .ring)) (e .text .len)) ≡ pushed e (live q)) × TraceFit s n (putColumns e (slotOf (q .ring)) (q .columns)) (set (q .numbers) (slotOf (q .ring)) (e .number)) (set (q .lengths) (slotOf (q .ring)) (e .text .len))
+    joined s n p = (
+      rw (put-texts e (slotOf (q .ring)) (q .columns) (f .columns) lb hk, put-addresses e (slotOf (q .ring)) (q .columns) (f .columns) lb hk, put-phases e (slotOf (q .ring)) (q .columns) (f .columns) lb hk, at) (p .0),
+      record { count = p .1 .count; columns = length-put e (slotOf (q .ring)) (q .columns) (f .columns) lb hk; numbers = rw at (p .1 .numbers); lengths = rw at (p .1 .lengths); short = rw at (p .1 .short) },
+    )
+
     go : Dec (q .ring .len < 512) → (live (pushInto e q) ≡ pushed e (live q)) × ArraysFit (pushInto e q)
     go (yes h) =
-        rw (lt-ltb _ _ h, at) (pushes (q .texts) (q .numbers) (q .addresses) (q .phases) (q .lengths) (q .ring .start) (q .ring .len) e f lb small h)
+        rw (lt-ltb _ _ h) (joined (q .ring .start % 512) (q .ring .len + 1) (pushes (textsIn (q .columns)) (q .numbers) (addressesIn (q .columns)) (phasesIn (q .columns)) (q .lengths) (q .ring .start) (q .ring .len) e cf lb small h))
     go (no h) =
-        rw (le-ltb (q .ring .len) 512 (omega arith), at) (replaces (q .texts) (q .numbers) (q .addresses) (q .phases) (q .lengths) (q .ring .start) (q .ring .len) e f lb small (omega (arith, f .count)))
+        rw (le-ltb (q .ring .len) 512 (omega arith)) (joined ((q .ring .start % 512 + 1) % 512) (q .ring .len) (replaces (textsIn (q .columns)) (q .numbers) (addressesIn (q .columns)) (phasesIn (q .columns)) (q .lengths) (q .ring .start) (q .ring .len) e cf lb small (omega (arith, f .count))))

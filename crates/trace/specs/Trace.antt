@@ -55,35 +55,51 @@ shortTexts (n ∷ l) = cond (ltb 32 n) false (shortTexts l)
 abbrev pub pasted : List ℕ → ℕ → List ℕ → List ℕ
 pasted d at xs = take at d ++ xs ++ drop (at + length xs) d
 
--- what the ring is between two ticks: texts, numbers, addresses, phases, lengths
-pub record TraceFit (start n : ℕ) (x i a p l : List ℕ) : Type 0 where
-  pub count : n ≤ 512
-  pub texts : length x ≡ 16384
-  pub numbers : length i ≡ 512
-  pub addresses : length a ≡ 512
-  pub phases : length p ≡ 512
-  pub lengths : length l ≡ 512
-  pub short : shortTexts (liveLengths start n l) ≡ true
+-- ---- the ring with its three arrays, as they are lent: columns of bytes, one behind the other; the numbers; the lengths of the texts
 
--- ---- the ring with its five arrays, as they are lent
+-- a column of 512 bytes, from index at on
+unfoldable pub column : ℕ → List ℕ → List ℕ
+column at k = take 512 (drop at k)
+
+-- texts, addresses, phases
+unfoldable pub textsIn : List ℕ → List ℕ
+textsIn k = take 16384 k
+
+abbrev pub addressesIn : List ℕ → List ℕ
+addressesIn k = column 16384 k
+
+abbrev pub phasesIn : List ℕ → List ℕ
+phasesIn k = column 16896 k
+
+abbrev pub columnsLength : ℕ
+columnsLength = 17408
 
 pub record Arrays : Type 0 where
   pub ring : Ring
-  pub texts : List ℕ
+  pub columns : List ℕ
   pub numbers : List ℕ
-  pub addresses : List ℕ
-  pub phases : List ℕ
   pub lengths : List ℕ
 
-abbrev pub arraysOf : Ring → List ℕ → List ℕ → List ℕ → List ℕ → List ℕ → Arrays
-arraysOf g x i a p l = record { ring = g; texts = x; numbers = i; addresses = a; phases = p; lengths = l }
+abbrev pub arraysOf : Ring → List ℕ → List ℕ → List ℕ → Arrays
+arraysOf g k i l = record { ring = g; columns = k; numbers = i; lengths = l }
 
--- the live records of these arrays, and what they are between two ticks
+-- the live records of these arrays: the oldest one's slot, how many there are, columns, numbers, lengths
+abbrev pub liveIn : ℕ → ℕ → List ℕ → List ℕ → List ℕ → List TraceRecord
+liveIn start n k i l = liveTrace start n (textsIn k) i (addressesIn k) (phasesIn k) l
+
 abbrev pub live : Arrays → List TraceRecord
-live q = liveTrace (q .ring .start) (q .ring .len) (q .texts) (q .numbers) (q .addresses) (q .phases) (q .lengths)
+live q = liveIn (q .ring .start) (q .ring .len) (q .columns) (q .numbers) (q .lengths)
+
+-- what they are between two ticks
+pub record TraceFit (start n : ℕ) (k i l : List ℕ) : Type 0 where
+  pub count : n ≤ 512
+  pub columns : length k ≡ columnsLength
+  pub numbers : length i ≡ 512
+  pub lengths : length l ≡ 512
+  pub short : shortTexts (liveLengths start n l) ≡ true
 
 abbrev pub ArraysFit : Arrays → Type 0
-ArraysFit q = TraceFit (q .ring .start) (q .ring .len) (q .texts) (q .numbers) (q .addresses) (q .phases) (q .lengths)
+ArraysFit q = TraceFit (q .ring .start) (q .ring .len) (q .columns) (q .numbers) (q .lengths)
 
 -- the slot of the next record: the one past the newest, and of 512 the oldest one's
 abbrev pub slotOf : Ring → ℕ
@@ -92,15 +108,12 @@ slotOf g = (g .start % 512 + g .len % 512) % 512
 unfoldable pub nextRing : Ring → Ring
 nextRing g = record { start = cond (ltb (g .len) 512) (g .start % 512) ((g .start % 512 + 1) % 512); len = cond (ltb (g .len) 512) (g .len + 1) (g .len) }
 
+-- a record's bytes written into the columns at slot k
+unfoldable pub putColumns : TraceRecord → ℕ → List ℕ → List ℕ
+putColumns e k c = set (set (pasted c (k * 32) (e .text .bytes)) (16384 + k) (e .address)) (16896 + k) (e .phase)
+
 -- a record written into its slot
 unfoldable pub pushInto : TraceRecord → Arrays → Arrays
 pushInto e q =
     let k = slotOf (q .ring) in
-    record {
-      ring = nextRing (q .ring);
-      texts = pasted (q .texts) (k * 32) (e .text .bytes);
-      numbers = set (q .numbers) k (e .number);
-      addresses = set (q .addresses) k (e .address);
-      phases = set (q .phases) k (e .phase);
-      lengths = set (q .lengths) k (e .text .len);
-    }
+    arraysOf (nextRing (q .ring)) (putColumns e k (q .columns)) (set (q .numbers) k (e .number)) (set (q .lengths) k (e .text .len))

@@ -1,8 +1,11 @@
-// The trace: a ring of the last 512 register transfers, in arrays that can be lent.
+// The trace: a ring of the last 512 register transfers, in three arrays that can be lent. One has the
+// numbers, one the lengths of the texts, and one has columns of bytes, one behind the other: the texts,
+// 32 bytes each, the addresses, the phases. Few arrays keep the functions that hand them on quick to
+// prove; the lengths stay apart, since each test of a state reads them and nothing else of the trace.
 ghost use mathlib.Core.Path.{_≡_};
 ghost use Prim.Native.Nat.{_<_, _*_};
 ghost use lib.ListN.{length};
-ghost use Rattle.trace.specs.Trace.{pasted, arraysOf, nextRing, pushInto};
+ghost use Rattle.trace.specs.Trace.{columnsLength, pasted, arraysOf, nextRing, pushInto};
 use isa::Text;
 
 // One register transfer: its number, the instruction's address, the phase (0 fetch, 2 execute), and
@@ -21,7 +24,7 @@ pub struct Ring {
 }
 
 fn put_text(t: Text, at: usize, out: &mut [u8])
-    requires { ⌜ (at < 512) × (length (now out) ≡ 16384) ⌝ }
+    requires { ⌜ (at < 512) × (length (now out) ≡ columnsLength) ⌝ }
     ensures { λ r. ⌜ now (out .exit) ≡ pasted (now (out .entry)) (at * 32) (t .bytes) ⌝ }
 {
     let mut i = 0;
@@ -58,21 +61,19 @@ pub fn push_trace(
     number: u64,
     address: u8,
     phase: u8,
-    texts: &mut [u8; 16384],
+    columns: &mut [u8; 17408],
     numbers: &mut [u64; 512],
-    addresses: &mut [u8; 512],
-    phases: &mut [u8; 512],
     lengths: &mut [u8; 512],
 ) -> Ring
-    ensures { λ r. ⌜ arraysOf r (now (texts .exit)) (now (numbers .exit)) (now (addresses .exit)) (now (phases .exit)) (now (lengths .exit)) ≡ pushInto (record { number = number; address = address; phase = phase; text = text }) (arraysOf ring (now (texts .entry)) (now (numbers .entry)) (now (addresses .entry)) (now (phases .entry)) (now (lengths .entry))) ⌝ }
+    ensures { λ r. ⌜ arraysOf r (now (columns .exit)) (now (numbers .exit)) (now (lengths .exit)) ≡ pushInto (record { number = number; address = address; phase = phase; text = text }) (arraysOf ring (now (columns .entry)) (now (numbers .entry)) (now (lengths .entry))) ⌝ }
 {
     let from = ring.start % 512;
     let room = ring.len % 512;
     let at = (from + room) % 512;
-    put_text(text, at, texts);
+    put_text(text, at, columns);
+    columns[16384 + at] = address;
+    columns[16896 + at] = phase;
     numbers[at] = number;
-    addresses[at] = address;
-    phases[at] = phase;
     lengths[at] = text.len;
     next_ring(ring)
 }

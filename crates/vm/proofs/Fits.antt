@@ -18,7 +18,7 @@ use Rattle.vm.specs.declared.machine.Machine.{Machine as Code}
 use Rattle.trace.specs.declared.records.TraceRecord.{TraceRecord}
 use Rattle.vm.specs.declared.transfer.Done.{Done}
 use Rattle.guard.specs.declared.stops.RunStop.the-variants.{AlreadyHalted, Refused}
-use Rattle.trace.specs.Trace.{liveTexts, liveLengths, shortTexts, newest}
+use Rattle.trace.specs.Trace.{liveTexts, liveLengths, shortTexts, newest, textsIn, addressesIn, phasesIn}
 use Rattle.vm.specs.Machine.{Machine, nextText, nextDone, microStep}
 use Rattle.vm.specs.Instruction.{Steps, started, steps, stepInstruction, tickTexts, textsFrom}
 use Rattle.vm.specs.Run.{run}
@@ -43,7 +43,7 @@ fit q n e z =
     record {
       control = e1 .0;
       touched = record { count = leb-true (c .«touched_len») 256 (e5 .0); long = z .touched; bytes = z .bytes; differ = e5 .1 };
-      trace = record { count = leb-true (c .«trace_len») 512 (e3 .0); texts = z .texts; numbers = z .numbers; addresses = z .addresses; phases = z .phases; lengths = z .lengths; short = e4 .0 };
+      trace = record { count = leb-true (c .«trace_len») 512 (e3 .0); columns = z .columns; numbers = z .numbers; lengths = z .lengths; short = e4 .0 };
     }
 
 -- what the ticks leave is a machine, where the image's length was one's
@@ -63,20 +63,20 @@ drop-map f (suc n) (x ∷ l) = drop-map f n l
 abbrev textOf : TraceRecord → Text
 textOf r = r .text
 
-abbrev textsIn : Parts → List Text
-textsIn q = liveTexts (q .core .«trace_start») (q .core .«trace_len») (q .texts) (q .lengths)
+abbrev textsLive : Parts → List Text
+textsLive q = liveTexts (q .core .«trace_start») (q .core .«trace_len») (textsIn (q .columns)) (q .lengths)
 
-newest-texts : (q : Parts) (n : ℕ) → newest n (textsIn q) ≡ map textOf (newest n (view q .trace))
+newest-texts : (q : Parts) (n : ℕ) → newest n (textsLive q) ≡ map textOf (newest n (view q .trace))
 newest-texts q n =
-    ap (newest n) (sym (texts-of (q .core .«trace_start») (q .core .«trace_len») (q .texts) (q .numbers) (q .addresses) (q .phases) (q .lengths)))
+    ap (newest n) (sym (texts-of (q .core .«trace_start») (q .core .«trace_len») (textsIn (q .columns)) (q .numbers) (addressesIn (q .columns)) (phasesIn (q .columns)) (q .lengths)))
     ∙ ap (λ (k : ℕ). drop (k - n) (map textOf (view q .trace))) (length-map (view q .trace) textOf)
     ∙ drop-map textOf (length (view q .trace) - n) (view q .trace)
 
 module _ (f n : ℕ) (p : Parts) {q : Parts} (d : Done) (small : f ≤ 512) (fp : Fit p) (fq : Fit q) (e : _≡_ {A = Steps} (record { machine = view q; ticks = n; done = d }) (steps f (started (view p)))) where
   long : length (view p .trace) ≤ 512
-  long = rw (trace-length (p .core .«trace_start») (p .core .«trace_len») (p .texts) (p .numbers) (p .addresses) (p .phases) (p .lengths) (fp .trace .count)) (fp .trace .count)
+  long = rw (trace-length (p .core .«trace_start») (p .core .«trace_len») (textsIn (p .columns)) (p .numbers) (addressesIn (p .columns)) (phasesIn (p .columns)) (p .lengths) (fp .trace .count)) (fp .trace .count)
 
-  pub texts-made : newest n (textsIn q) ≡ tickTexts f (view p)
+  pub texts-made : newest n (textsLive q) ≡ tickTexts f (view p)
   texts-made = newest-texts q n ∙ ap (λ (s : Steps). map textOf (newest (s .ticks) (s .machine .trace))) e ∙ made f (view p) small long
 
   pub ticks-few : (n ≤ f) × (n ≤ q .core .«trace_len»)
@@ -84,7 +84,7 @@ module _ (f n : ℕ) (p : Parts) {q : Parts} (d : Done) (small : f ≤ 512) (fp 
       let k = few f (view p) small long in
       let t = ap (λ (s : Steps). s .ticks) e in
       let m = ap (λ (s : Steps). length (s .machine .trace)) e in
-      let l = trace-length (q .core .«trace_start») (q .core .«trace_len») (q .texts) (q .numbers) (q .addresses) (q .phases) (q .lengths) (fq .trace .count) in
+      let l = trace-length (q .core .«trace_start») (q .core .«trace_len») (textsIn (q .columns)) (q .numbers) (addressesIn (q .columns)) (phasesIn (q .columns)) (q .lengths) (fq .trace .count) in
       (omega (arith, k .0, t), omega (arith, k .1, t, m, l))
 
 -- ---- `micro_step` and `step_instruction` by their tests
@@ -133,10 +133,8 @@ withParts m q = record {
   registers = q .registers;
   state = q .core .state;
   counters = q .core .counters;
-  texts = q .texts;
+  columns = q .columns;
   numbers = q .numbers;
-  addresses = q .addresses;
-  phases = q .phases;
   lengths = q .lengths;
   «trace_start» = q .core .«trace_start»;
   «trace_len» = q .core .«trace_len»;
@@ -157,10 +155,10 @@ module _ (n : ℕ) (p : Parts) {q : Parts} (d : Done) (fp : Fit p) (fq : Fit q) 
   pub has-one : 1 ≤ q .core .«trace_len»
   has-one = omega (arith, one, ticks-few 1 n p d (omega arith) fp fq e .1)
 
-  pub first-text : getD (newest 1 (textsIn q)) 0 (text []) ≡ nextText (view p)
+  pub first-text : getD (newest 1 (textsLive q)) 0 (text []) ≡ nextText (view p)
   unfolding tickTexts
   first-text =
-      ap (λ (k : ℕ). getD (newest k (textsIn q)) 0 (text [])) (sym one)
+      ap (λ (k : ℕ). getD (newest k (textsLive q)) 0 (text [])) (sym one)
       ∙ ap (λ (t : List Text). getD t 0 (text [])) (texts-made 1 n p d (omega arith) fp fq e)
 
 pub made-op : (v : Machine) {m : Machine} {n : ℕ} {d : Done} {x : Text} → _≡_ {A = Steps} (record { machine = m; ticks = n; done = d }) (record { machine = microStep v; ticks = 1; done = nextDone v }) → x ≡ nextText v

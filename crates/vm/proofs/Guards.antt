@@ -17,10 +17,10 @@ use Rattle.isa.specs.Word.{decodeWord, digitX, digitY, digitZ, byteYZ}
 use Rattle.tick.specs.declared.control.Fault.{Fault}
 use Rattle.guard.specs.declared.stops.GuardedStop.{GuardedStop}
 use Rattle.guard.specs.declared.stops.GuardedStop.the-variants.{Halted, Breakpoint, Fault as Faulted, Budget, HiddenWord, HiddenJump}
-use Rattle.guard.specs.declared.marks.Moved.{Moved}
+use Rattle.marks.specs.declared.Moved.{Moved}
 use Rattle.guard.specs.Stops.{stop, go, reached}
 use Rattle.vm.specs.View.{Parts, parts, view, Fit}
-use Rattle.guard.specs.Marks.{Marks, joinedYZ, executedMarks, instructionMarks, moves}
+use Rattle.marks.specs.Marks.{Marks, joinedYZ, executedMarks, instructionMarks, moves}
 use Rattle.vm.specs.Guard.{Guarded, guard, guardedStep, guardedEnd, guardClosed, guardedRun, nextWord, closedCore}
 use Rattle.guard.specs.Stops.{guardIf, hiddenJump}
 use Rattle.guard.specs.Input.{zeroOne}
@@ -53,7 +53,7 @@ module _ (hid : ℕ → Bool) (b : List ℕ) (k n : ℕ) (g : Guarded) where
 
 -- the parts after a stop
 abbrev pub closedParts : GuardedStop → Parts → Parts
-closedParts c q = parts (closedCore c (q .core)) (q .memory) (q .registers) (q .touched) (q .texts) (q .numbers) (q .addresses) (q .phases) (q .lengths)
+closedParts c q = parts (closedCore c (q .core)) (q .memory) (q .registers) (q .touched) (q .columns) (q .numbers) (q .lengths)
 
 pub closed-view : (c : GuardedStop) (q : Parts) → view (closedParts c q) ≡ guardClosed c (view q)
 closed-view Halted q = refl

@@ -10,11 +10,12 @@ use lib.Dec.{eqb, ltb}
 use lib.ListN.{length, getD, replicate, length-replicate}
 use lib.Seq.{take-all}
 use Rattle.tick.proofs.Lawfuls.{both}
+use Rattle.trace.specs.Trace.{columnsLength}
 use Rattle.vm.specs.declared.machine.Machine.{Machine as Code}
 use Rattle.vm.specs.View.{Fit}
 use Rattle.vm.specs.Refusal.{Sizes}
 use Rattle.vm.specs.Calls.{partsOf, viewOf, isMachine, restOf, restarted, imageWords, imageSize}
-use Rattle.guard.specs.Marks.{marked}
+use Rattle.marks.specs.Marks.{marked}
 use Rattle.vm.specs.Guard.{guardedStart, guardedRun, guardedOf}
 use Rattle.guard.specs.Input.{Input, zeroOne, inputRefusal}
 use Rattle.vm.proofs.Starts.{size-few, new-ok}
@@ -37,10 +38,8 @@ new-fit image n h le =
     record {
       touched = long 256;
       bytes = λ i. omega (arith, zeros 256 i);
-      texts = long 16384;
+      columns = long columnsLength;
       numbers = long 512;
-      addresses = long 512;
-      phases = long 512;
       lengths = long 512;
     } in
     fit (partsOf (restarted image n h)) n (new-ok image n h le) z

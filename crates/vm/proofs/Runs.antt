@@ -66,7 +66,7 @@ spent-lawful c e = halted-ok (leb (c .tick) 6) _ e
 -- ---- the parts after a stop
 
 abbrev pub stoppedParts : RunStop → Parts → Parts
-stoppedParts c q = parts (stoppedCore c (q .core)) (q .memory) (q .registers) (q .touched) (q .texts) (q .numbers) (q .addresses) (q .phases) (q .lengths)
+stoppedParts c q = parts (stoppedCore c (q .core)) (q .memory) (q .registers) (q .touched) (q .columns) (q .numbers) (q .lengths)
 
 pub stopped-view : (c : RunStop) (q : Parts) → view (stoppedParts c q) ≡ closed c (view q)
 stopped-view Halted q = refl
@@ -76,7 +76,7 @@ stopped-view Budget q = refl
 stopped-view AlreadyHalted q = refl
 stopped-view (Refused n) q = refl
 
-pub spent-fit : (q : Parts) → Fit q → Fit (parts (spentCore (q .core)) (q .memory) (q .registers) (q .touched) (q .texts) (q .numbers) (q .addresses) (q .phases) (q .lengths))
+pub spent-fit : (q : Parts) → Fit q → Fit (parts (spentCore (q .core)) (q .memory) (q .registers) (q .touched) (q .columns) (q .numbers) (q .lengths))
 spent-fit q f = record { control = spent-lawful (q .core .state .control) (f .control); touched = f .touched; trace = f .trace }
 
 pub stopped-fit : (c : RunStop) (q : Parts) → Fit q → Fit (stoppedParts c q)

@@ -33,6 +33,7 @@ use Rattle.vm.specs.declared.readings.TextRead.{TextRead}
 use Rattle.vm.specs.declared.readings.PositionRead.{PositionRead}
 use Rattle.vm.specs.declared.readings.ImageRead.{ImageRead}
 use Rattle.guard.specs.declared.stops.RunStop.the-variants.{AlreadyHalted, Refused}
+use Rattle.trace.specs.Trace.{columnsLength}
 use Rattle.vm.specs.Machine.{Machine, nextText, nextDone, microStep}
 use Rattle.vm.specs.Instruction.{stepInstruction, tickTexts, textsFrom}
 use Rattle.vm.specs.Run.{RunEnd, run}
@@ -45,7 +46,7 @@ abbrev pub coreOf : Code → Core
 coreOf m = record { state = m .state; counters = m .counters; «touched_len» = m .«touched_len»; «trace_start» = m .«trace_start»; «trace_len» = m .«trace_len» }
 
 abbrev pub partsOf : Code → Parts
-partsOf m = parts (coreOf m) (m .memory) (m .registers) (m .touched) (m .texts) (m .numbers) (m .addresses) (m .phases) (m .lengths)
+partsOf m = parts (coreOf m) (m .memory) (m .registers) (m .touched) (m .columns) (m .numbers) (m .lengths)
 
 abbrev pub viewOf : Code → Machine
 viewOf m = view (partsOf m)
@@ -84,10 +85,8 @@ restarted image n history = record {
     «last_alu» = Unused;
   };
   counters = record { instructions = 0; «micro_operations» = 0; «bus_reads» = 0; «bus_writes» = 0 };
-  texts = replicate 16384 0;
+  columns = replicate columnsLength 0;
   numbers = replicate 512 0;
-  addresses = replicate 512 0;
-  phases = replicate 512 0;
   lengths = replicate 512 0;
   «trace_start» = 0;
   «trace_len» = 0;
@@ -126,10 +125,8 @@ withHistory n m = record {
   registers = m .registers;
   state = m .state;
   counters = m .counters;
-  texts = m .texts;
+  columns = m .columns;
   numbers = m .numbers;
-  addresses = m .addresses;
-  phases = m .phases;
   lengths = m .lengths;
   «trace_start» = m .«trace_start»;
   «trace_len» = m .«trace_len»;

@@ -17,7 +17,7 @@ use Rattle.tick.specs.declared.control.State.{State}
 use Rattle.tick.specs.Count.{countTick}
 use Rattle.tick.specs.Tick.{decodeTick, right16, left16, executeTick, tickOf}
 use Rattle.encoding.specs.Bytes.{member}
-use Rattle.guard.specs.Marks.{marked, instructionMarks}
+use Rattle.marks.specs.Marks.{marked, instructionMarks}
 use Rattle.guard.specs.Stops.{stopNumber}
 use Rattle.guard.specs.Input.{Input}
 use Rattle.trace.specs.declared.records.TraceRecord.{TraceRecord}

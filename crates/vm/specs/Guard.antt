@@ -7,7 +7,7 @@ use lib.Dec.{eqb}
 use lib.ListN.{length, getD, replicate}
 use Rattle.guard.specs.declared.stops.GuardedStop.{GuardedStop}
 use Rattle.guard.specs.declared.stops.GuardedStop.the-variants.{Halted, Breakpoint, Fault as Faulted, Budget, HiddenWord, HiddenJump}
-use Rattle.guard.specs.Marks.{Marks, instructionMarks}
+use Rattle.marks.specs.Marks.{Marks, instructionMarks}
 use Rattle.guard.specs.Stops.{Verdict, after, reached, hiddenJump, guardIf}
 use Rattle.guard.specs.Input.{Input}
 use Rattle.vm.specs.declared.guarded.GuardedRun.{GuardedRun}

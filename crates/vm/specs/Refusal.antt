@@ -9,7 +9,7 @@ use lib.ListN.{length, take, getD}
 use Rattle.tick.specs.Lawful.{lawful}
 use Rattle.tick.specs.Count.{overCounted}
 use Rattle.vm.specs.declared.transfer.Core.{Core}
-use Rattle.trace.specs.Trace.{liveLengths, shortTexts}
+use Rattle.trace.specs.Trace.{liveLengths, shortTexts, columnsLength}
 use Rattle.trace.specs.Touched.{distinct}
 use Rattle.vm.specs.View.{Parts}
 
@@ -37,8 +37,6 @@ stepRefusal c n t l = stepRefusalIf (partsOk c n t l) (c .state .control .halted
 pub record Sizes (q : Parts) : Type 0 where
   pub touched : length (q .touched) ≡ 256
   pub bytes : (i : ℕ) → getD (q .touched) i 0 < 256
-  pub texts : length (q .texts) ≡ 16384
+  pub columns : length (q .columns) ≡ columnsLength
   pub numbers : length (q .numbers) ≡ 512
-  pub addresses : length (q .addresses) ≡ 512
-  pub phases : length (q .phases) ≡ 512
   pub lengths : length (q .lengths) ≡ 512

@@ -11,7 +11,7 @@ use Rattle.guard.specs.declared.stops.RunStop.the-variants.{Halted, Breakpoint,
 use Rattle.trace.specs.declared.records.TraceRecord.{TraceRecord}
 use Rattle.vm.specs.declared.transfer.Core.{Core}
 use Rattle.vm.specs.Run.{spentState}
-use Rattle.trace.specs.Trace.{liveTrace, TraceFit}
+use Rattle.trace.specs.Trace.{liveIn, TraceFit}
 use Rattle.trace.specs.Touched.{TouchFit}
 use Rattle.vm.specs.Machine.{Machine}
 
@@ -20,17 +20,15 @@ pub record Parts : Type 0 where
   pub memory : List ℕ
   pub registers : List ℕ
   pub touched : List ℕ
-  pub texts : List ℕ
+  pub columns : List ℕ
   pub numbers : List ℕ
-  pub addresses : List ℕ
-  pub phases : List ℕ
   pub lengths : List ℕ
 
-abbrev pub parts : Core → List ℕ → List ℕ → List ℕ → List ℕ → List ℕ → List ℕ → List ℕ → List ℕ → Parts
-parts c m r t x i a p l = record { core = c; memory = m; registers = r; touched = t; texts = x; numbers = i; addresses = a; phases = p; lengths = l }
+abbrev pub parts : Core → List ℕ → List ℕ → List ℕ → List ℕ → List ℕ → List ℕ → Parts
+parts c m r t k i l = record { core = c; memory = m; registers = r; touched = t; columns = k; numbers = i; lengths = l }
 
 abbrev pub traceOf : Parts → List TraceRecord
-traceOf q = liveTrace (q .core .«trace_start») (q .core .«trace_len») (q .texts) (q .numbers) (q .addresses) (q .phases) (q .lengths)
+traceOf q = liveIn (q .core .«trace_start») (q .core .«trace_len») (q .columns) (q .numbers) (q .lengths)
 
 -- the ring and the slots past the counts do not show
 abbrev pub view : Parts → Machine
@@ -47,7 +45,7 @@ view q = record {
 pub record Fit (q : Parts) : Type 0 where
   pub control : lawful (q .core .state .control) ≡ true
   pub touched : TouchFit (q .core .«touched_len») (q .touched)
-  pub trace : TraceFit (q .core .«trace_start») (q .core .«trace_len») (q .texts) (q .numbers) (q .addresses) (q .phases) (q .lengths)
+  pub trace : TraceFit (q .core .«trace_start») (q .core .«trace_len») (q .columns) (q .numbers) (q .lengths)
 
 -- the small part, halted by a spent budget
 abbrev pub spentCore : Core → Core

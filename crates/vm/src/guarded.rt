@@ -4,7 +4,7 @@ ghost use mathlib.Core.Path.{_≡_};
 ghost use mathlib.Core.Bool.{true, cond};
 ghost use lib.Dec.{eqb};
 ghost use lib.ListN.{length};
-ghost use Rattle.guard.specs.Marks.{marked};
+ghost use Rattle.marks.specs.Marks.{marked};
 ghost use Rattle.guard.specs.Input.{inputRefusal};
 ghost use Rattle.vm.specs.View.{parts, view, Fit};
 ghost use Rattle.vm.specs.Guard.{closedCore, guardedRun, guardedOf, endOf};
@@ -20,11 +20,11 @@ use crate::run::Begun;
 use crate::run::exhausted;
 use crate::transfer::Core;
 use guard::GuardedStop;
-use guard::Marks;
 use guard::Verdict;
 use guard::guard_refusal;
 use guard::judge;
-use guard::mark_instruction;
+use marks::Marks;
+use marks::mark_instruction;
 
 // Of the stops only a spent budget changes the machine.
 fn closed_core(stop: GuardedStop, core: Core) -> Core
@@ -57,14 +57,12 @@ fn guarded_parts(
     memory: &mut [u16; 256],
     registers: &mut [u16; 16],
     touched: &mut [u8; 256],
-    texts: &mut [u8; 16384],
+    columns: &mut [u8; 17408],
     numbers: &mut [u64; 512],
-    addresses: &mut [u8; 512],
-    phases: &mut [u8; 512],
     lengths: &mut [u8; 512],
 ) -> GuardedCore
-    requires { ⌜ Fit (parts from (now memory) (now registers) (now touched) (now texts) (now numbers) (now addresses) (now phases) (now lengths)) ⌝ }
-    ensures { λ r. ⌜ (record { stop = r .stop; executed = r .executed .0; guarded = record { machine = view (parts (r .core) (now (memory .exit)) (now (registers .exit)) (now (touched .exit)) (now (texts .exit)) (now (numbers .exit)) (now (addresses .exit)) (now (phases .exit)) (now (lengths .exit))); marks = record { memory = now (marks .exit); registers = now («register_marks» .exit); mdr = r .«mdr_mark» } } } ≡ guardedRun marked (now (breakpoints .entry)) 0 (budget .0) (record { machine = view (parts from (now (memory .entry)) (now (registers .entry)) (now (touched .entry)) (now (texts .entry)) (now (numbers .entry)) (now (addresses .entry)) (now (phases .entry)) (now (lengths .entry))); marks = record { memory = now (marks .entry); registers = now («register_marks» .entry); mdr = 0 } })) × Fit (parts (r .core) (now (memory .exit)) (now (registers .exit)) (now (touched .exit)) (now (texts .exit)) (now (numbers .exit)) (now (addresses .exit)) (now (phases .exit)) (now (lengths .exit))) ⌝ }
+    requires { ⌜ Fit (parts from (now memory) (now registers) (now touched) (now columns) (now numbers) (now lengths)) ⌝ }
+    ensures { λ r. ⌜ (record { stop = r .stop; executed = r .executed .0; guarded = record { machine = view (parts (r .core) (now (memory .exit)) (now (registers .exit)) (now (touched .exit)) (now (columns .exit)) (now (numbers .exit)) (now (lengths .exit))); marks = record { memory = now (marks .exit); registers = now («register_marks» .exit); mdr = r .«mdr_mark» } } } ≡ guardedRun marked (now (breakpoints .entry)) 0 (budget .0) (record { machine = view (parts from (now (memory .entry)) (now (registers .entry)) (now (touched .entry)) (now (columns .entry)) (now (numbers .entry)) (now (lengths .entry))); marks = record { memory = now (marks .entry); registers = now («register_marks» .entry); mdr = 0 } })) × Fit (parts (r .core) (now (memory .exit)) (now (registers .exit)) (now (touched .exit)) (now (columns .exit)) (now (numbers .exit)) (now (lengths .exit))) ⌝ }
 {
     let mut s = from;
     let limit = budget.0;
@@ -92,10 +90,8 @@ fn guarded_parts(
             memory,
             registers,
             touched,
-            texts,
+            columns,
             numbers,
-            addresses,
-            phases,
             lengths,
         );
         let next = t.core;
@@ -147,10 +143,8 @@ pub fn guarded_run(image: &[u16], marks: &[u8], budget: Begun, breakpoints: &[u8
     };
     let mut registers = new.registers;
     let mut memory = new.memory;
-    let mut phases = new.phases;
-    let mut addresses = new.addresses;
     let mut numbers = new.numbers;
-    let mut texts = new.texts;
+    let mut columns = new.columns;
     let mut lengths = new.lengths;
     let mut touched = new.touched;
     let mut word_marks = mark_words(marks);
@@ -165,10 +159,8 @@ pub fn guarded_run(image: &[u16], marks: &[u8], budget: Begun, breakpoints: &[u8
         &mut memory,
         &mut registers,
         &mut touched,
-        &mut texts,
+        &mut columns,
         &mut numbers,
-        &mut addresses,
-        &mut phases,
         &mut lengths,
     );
     let end = r.core;
@@ -182,10 +174,8 @@ pub fn guarded_run(image: &[u16], marks: &[u8], budget: Begun, breakpoints: &[u8
         registers,
         state,
         counters,
-        texts,
+        columns,
         numbers,
-        addresses,
-        phases,
         lengths,
         trace_start: end.trace_start,
         trace_len: end.trace_len,

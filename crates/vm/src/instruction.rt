@@ -28,14 +28,12 @@ pub(crate) fn instruction_parts(
     memory: &mut [u16; 256],
     registers: &mut [u16; 16],
     touched: &mut [u8; 256],
-    texts: &mut [u8; 16384],
+    columns: &mut [u8; 17408],
     numbers: &mut [u64; 512],
-    addresses: &mut [u8; 512],
-    phases: &mut [u8; 512],
     lengths: &mut [u8; 512],
 ) -> Stepped
-    requires { ⌜ (1 ≤ limit .0) × (from .state .control .halted ≡ false) × Fit (parts from (now memory) (now registers) (now touched) (now texts) (now numbers) (now addresses) (now phases) (now lengths)) ⌝ }
-    ensures { λ r. ⌜ (record { machine = view (parts (r .core) (now (memory .exit)) (now (registers .exit)) (now (touched .exit)) (now (texts .exit)) (now (numbers .exit)) (now (addresses .exit)) (now (phases .exit)) (now (lengths .exit))); ticks = r .ticks .0; done = r .done } ≡ steps (limit .0) (started (view (parts from (now (memory .entry)) (now (registers .entry)) (now (touched .entry)) (now (texts .entry)) (now (numbers .entry)) (now (addresses .entry)) (now (phases .entry)) (now (lengths .entry)))))) × Fit (parts (r .core) (now (memory .exit)) (now (registers .exit)) (now (touched .exit)) (now (texts .exit)) (now (numbers .exit)) (now (addresses .exit)) (now (phases .exit)) (now (lengths .exit))) × (r .halted ≡ r .core .state .control .halted) ⌝ }
+    requires { ⌜ (1 ≤ limit .0) × (from .state .control .halted ≡ false) × Fit (parts from (now memory) (now registers) (now touched) (now columns) (now numbers) (now lengths)) ⌝ }
+    ensures { λ r. ⌜ (record { machine = view (parts (r .core) (now (memory .exit)) (now (registers .exit)) (now (touched .exit)) (now (columns .exit)) (now (numbers .exit)) (now (lengths .exit))); ticks = r .ticks .0; done = r .done } ≡ steps (limit .0) (started (view (parts from (now (memory .entry)) (now (registers .entry)) (now (touched .entry)) (now (columns .entry)) (now (numbers .entry)) (now (lengths .entry)))))) × Fit (parts (r .core) (now (memory .exit)) (now (registers .exit)) (now (touched .exit)) (now (columns .exit)) (now (numbers .exit)) (now (lengths .exit))) × (r .halted ≡ r .core .state .control .halted) ⌝ }
 {
     let mut s = from;
     let mut done = Done {
@@ -46,17 +44,7 @@ pub(crate) fn instruction_parts(
     let mut made: u64 = 0;
     let mut left = limit.0;
     let halted = loop {
-        let t = tick_parts(
-            s,
-            memory,
-            registers,
-            touched,
-            texts,
-            numbers,
-            addresses,
-            phases,
-            lengths,
-        );
+        let t = tick_parts(s, memory, registers, touched, columns, numbers, lengths);
         s = t.core;
         done = t.done;
         made += 1;

@@ -19,12 +19,10 @@ pub struct Machine {
     pub touched_len: usize,
     pub lengths: [u8; 512],
     pub trace_len: usize,
-    pub texts: [u8; 16384],
+    pub columns: [u8; 17408],
     pub trace_start: usize,
     pub numbers: [u64; 512],
     pub image_len: usize,
-    pub addresses: [u8; 512],
-    pub phases: [u8; 512],
     pub memory: [u16; 256],
     pub registers: [u16; 16],
     pub history_len: usize,
@@ -92,20 +90,18 @@ pub(crate) fn switched_on(image: [u16; 256], image_len: usize, history_len: usiz
         bus_writes: 0,
     };
     let registers = [0u16; 16];
-    let texts = [0u8; 16384];
+    let columns = [0u8; 17408];
     let numbers = [0u64; 512];
-    let none = [0u8; 512];
+    let lengths = [0u8; 512];
     let touched = [0u8; 256];
     Machine {
         memory: image,
         registers,
         state,
         counters,
-        texts,
+        columns,
         numbers,
-        addresses: none,
-        phases: none,
-        lengths: none,
+        lengths,
         trace_start: 0,
         trace_len: 0,
         touched,

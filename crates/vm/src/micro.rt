@@ -100,14 +100,12 @@ fn micro_parts(
     memory: &mut [u16; 256],
     registers: &mut [u16; 16],
     touched: &mut [u8; 256],
-    texts: &mut [u8; 16384],
+    columns: &mut [u8; 17408],
     numbers: &mut [u64; 512],
-    addresses: &mut [u8; 512],
-    phases: &mut [u8; 512],
     lengths: &mut [u8; 512],
 ) -> MicroCore
-    requires { ⌜ Sizes (parts core (now memory) (now registers) (now touched) (now texts) (now numbers) (now addresses) (now phases) (now lengths)) ⌝ }
-    ensures { λ r. ⌜ (answered (r .refused) (r .op) (view (parts (r .core) (now (memory .exit)) (now (registers .exit)) (now (touched .exit)) (now (texts .exit)) (now (numbers .exit)) (now (addresses .exit)) (now (phases .exit)) (now (lengths .exit)))) ≡ microOutcome (stepRefusal core size (now (touched .entry)) (now (lengths .entry))) (view (parts core (now (memory .entry)) (now (registers .entry)) (now (touched .entry)) (now (texts .entry)) (now (numbers .entry)) (now (addresses .entry)) (now (phases .entry)) (now (lengths .entry))))) × ((r .refused ≡ 0 → ⊥) → parts (r .core) (now (memory .exit)) (now (registers .exit)) (now (touched .exit)) (now (texts .exit)) (now (numbers .exit)) (now (addresses .exit)) (now (phases .exit)) (now (lengths .exit)) ≡ parts core (now (memory .entry)) (now (registers .entry)) (now (touched .entry)) (now (texts .entry)) (now (numbers .entry)) (now (addresses .entry)) (now (phases .entry)) (now (lengths .entry))) × (partsOk core size (now (touched .entry)) (now (lengths .entry)) ≡ true → partsOk (r .core) size (now (touched .exit)) (now (lengths .exit)) ≡ true) ⌝ }
+    requires { ⌜ Sizes (parts core (now memory) (now registers) (now touched) (now columns) (now numbers) (now lengths)) ⌝ }
+    ensures { λ r. ⌜ (answered (r .refused) (r .op) (view (parts (r .core) (now (memory .exit)) (now (registers .exit)) (now (touched .exit)) (now (columns .exit)) (now (numbers .exit)) (now (lengths .exit)))) ≡ microOutcome (stepRefusal core size (now (touched .entry)) (now (lengths .entry))) (view (parts core (now (memory .entry)) (now (registers .entry)) (now (touched .entry)) (now (columns .entry)) (now (numbers .entry)) (now (lengths .entry))))) × ((r .refused ≡ 0 → ⊥) → parts (r .core) (now (memory .exit)) (now (registers .exit)) (now (touched .exit)) (now (columns .exit)) (now (numbers .exit)) (now (lengths .exit)) ≡ parts core (now (memory .entry)) (now (registers .entry)) (now (touched .entry)) (now (columns .entry)) (now (numbers .entry)) (now (lengths .entry))) × (partsOk core size (now (touched .entry)) (now (lengths .entry)) ≡ true → partsOk (r .core) size (now (touched .exit)) (now (lengths .exit)) ≡ true) ⌝ }
 {
     let state = core.state;
     let still = halted_op(state);
@@ -132,10 +130,8 @@ fn micro_parts(
         memory,
         registers,
         touched,
-        texts,
+        columns,
         numbers,
-        addresses,
-        phases,
         lengths,
     );
     let end = stepped.core;
@@ -145,7 +141,7 @@ fn micro_parts(
         start: end.trace_start,
         len: end.trace_len,
     };
-    let text = newest_text(ring, 1, 0, texts, lengths);
+    let text = newest_text(ring, 1, 0, columns, lengths);
     let op = op_after(state.control.tick, after, done, text);
     MicroCore {
         refused,
@@ -173,10 +169,8 @@ impl Machine {
         };
         let mut registers = self.registers;
         let mut memory = self.memory;
-        let mut phases = self.phases;
-        let mut addresses = self.addresses;
         let mut numbers = self.numbers;
-        let mut texts = self.texts;
+        let mut columns = self.columns;
         let mut lengths = self.lengths;
         let mut touched = self.touched;
         let r = micro_parts(
@@ -185,10 +179,8 @@ impl Machine {
             &mut memory,
             &mut registers,
             &mut touched,
-            &mut texts,
+            &mut columns,
             &mut numbers,
-            &mut addresses,
-            &mut phases,
             &mut lengths,
         );
         let end = r.core;
@@ -201,10 +193,8 @@ impl Machine {
             registers,
             state,
             counters,
-            texts,
+            columns,
             numbers,
-            addresses,
-            phases,
             lengths,
             trace_start: end.trace_start,
             trace_len: end.trace_len,

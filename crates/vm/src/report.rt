@@ -63,14 +63,12 @@ fn step_parts(
     memory: &mut [u16; 256],
     registers: &mut [u16; 16],
     touched: &mut [u8; 256],
-    texts: &mut [u8; 16384],
+    columns: &mut [u8; 17408],
     numbers: &mut [u64; 512],
-    addresses: &mut [u8; 512],
-    phases: &mut [u8; 512],
     lengths: &mut [u8; 512],
 ) -> InstructionCore
-    requires { ⌜ Sizes (parts core (now memory) (now registers) (now touched) (now texts) (now numbers) (now addresses) (now phases) (now lengths)) ⌝ }
-    ensures { λ r. ⌜ (answered (r .refused) (r .report) (view (parts (r .core) (now (memory .exit)) (now (registers .exit)) (now (touched .exit)) (now (texts .exit)) (now (numbers .exit)) (now (addresses .exit)) (now (phases .exit)) (now (lengths .exit)))) ≡ stepOutcome (stepRefusal core size (now (touched .entry)) (now (lengths .entry))) (view (parts core (now (memory .entry)) (now (registers .entry)) (now (touched .entry)) (now (texts .entry)) (now (numbers .entry)) (now (addresses .entry)) (now (phases .entry)) (now (lengths .entry))))) × ((r .refused ≡ 0 → ⊥) → parts (r .core) (now (memory .exit)) (now (registers .exit)) (now (touched .exit)) (now (texts .exit)) (now (numbers .exit)) (now (addresses .exit)) (now (phases .exit)) (now (lengths .exit)) ≡ parts core (now (memory .entry)) (now (registers .entry)) (now (touched .entry)) (now (texts .entry)) (now (numbers .entry)) (now (addresses .entry)) (now (phases .entry)) (now (lengths .entry))) × (partsOk core size (now (touched .entry)) (now (lengths .entry)) ≡ true → partsOk (r .core) size (now (touched .exit)) (now (lengths .exit)) ≡ true) ⌝ }
+    requires { ⌜ Sizes (parts core (now memory) (now registers) (now touched) (now columns) (now numbers) (now lengths)) ⌝ }
+    ensures { λ r. ⌜ (answered (r .refused) (r .report) (view (parts (r .core) (now (memory .exit)) (now (registers .exit)) (now (touched .exit)) (now (columns .exit)) (now (numbers .exit)) (now (lengths .exit)))) ≡ stepOutcome (stepRefusal core size (now (touched .entry)) (now (lengths .entry))) (view (parts core (now (memory .entry)) (now (registers .entry)) (now (touched .entry)) (now (columns .entry)) (now (numbers .entry)) (now (lengths .entry))))) × ((r .refused ≡ 0 → ⊥) → parts (r .core) (now (memory .exit)) (now (registers .exit)) (now (touched .exit)) (now (columns .exit)) (now (numbers .exit)) (now (lengths .exit)) ≡ parts core (now (memory .entry)) (now (registers .entry)) (now (touched .entry)) (now (columns .entry)) (now (numbers .entry)) (now (lengths .entry))) × (partsOk core size (now (touched .entry)) (now (lengths .entry)) ≡ true → partsOk (r .core) size (now (touched .exit)) (now (lengths .exit)) ≡ true) ⌝ }
 {
     let state = core.state;
     let fault = state.fault;
@@ -107,10 +105,8 @@ fn step_parts(
         memory,
         registers,
         touched,
-        texts,
+        columns,
         numbers,
-        addresses,
-        phases,
         lengths,
     );
     let end = stepped.core;
@@ -120,7 +116,7 @@ fn step_parts(
         len: end.trace_len,
     };
     let made = stepped.ticks.0 as usize;
-    let micro_ops = newest_texts(ring, made, texts, lengths);
+    let micro_ops = newest_texts(ring, made, columns, lengths);
     let report = InstructionReport {
         address,
         word,
@@ -155,10 +151,8 @@ impl Machine {
         };
         let mut registers = self.registers;
         let mut memory = self.memory;
-        let mut phases = self.phases;
-        let mut addresses = self.addresses;
         let mut numbers = self.numbers;
-        let mut texts = self.texts;
+        let mut columns = self.columns;
         let mut lengths = self.lengths;
         let mut touched = self.touched;
         let r = step_parts(
@@ -167,10 +161,8 @@ impl Machine {
             &mut memory,
             &mut registers,
             &mut touched,
-            &mut texts,
+            &mut columns,
             &mut numbers,
-            &mut addresses,
-            &mut phases,
             &mut lengths,
         );
         let end = r.core;
@@ -183,10 +175,8 @@ impl Machine {
             registers,
             state,
             counters,
-            texts,
+            columns,
             numbers,
-            addresses,
-            phases,
             lengths,
             trace_start: end.trace_start,
             trace_len: end.trace_len,

@@ -75,14 +75,12 @@ pub(crate) fn run_parts(
     memory: &mut [u16; 256],
     registers: &mut [u16; 16],
     touched: &mut [u8; 256],
-    texts: &mut [u8; 16384],
+    columns: &mut [u8; 17408],
     numbers: &mut [u64; 512],
-    addresses: &mut [u8; 512],
-    phases: &mut [u8; 512],
     lengths: &mut [u8; 512],
 ) -> RanCore
-    requires { ⌜ Fit (parts from (now memory) (now registers) (now touched) (now texts) (now numbers) (now addresses) (now phases) (now lengths)) ⌝ }
-    ensures { λ r. ⌜ (record { stop = r .stop; executed = r .executed .0; machine = view (parts (r .core) (now (memory .exit)) (now (registers .exit)) (now (touched .exit)) (now (texts .exit)) (now (numbers .exit)) (now (addresses .exit)) (now (phases .exit)) (now (lengths .exit))) } ≡ run (now (breakpoints .entry)) 0 (budget .0) (view (parts from (now (memory .entry)) (now (registers .entry)) (now (touched .entry)) (now (texts .entry)) (now (numbers .entry)) (now (addresses .entry)) (now (phases .entry)) (now (lengths .entry))))) × Fit (parts (r .core) (now (memory .exit)) (now (registers .exit)) (now (touched .exit)) (now (texts .exit)) (now (numbers .exit)) (now (addresses .exit)) (now (phases .exit)) (now (lengths .exit))) ⌝ }
+    requires { ⌜ Fit (parts from (now memory) (now registers) (now touched) (now columns) (now numbers) (now lengths)) ⌝ }
+    ensures { λ r. ⌜ (record { stop = r .stop; executed = r .executed .0; machine = view (parts (r .core) (now (memory .exit)) (now (registers .exit)) (now (touched .exit)) (now (columns .exit)) (now (numbers .exit)) (now (lengths .exit))) } ≡ run (now (breakpoints .entry)) 0 (budget .0) (view (parts from (now (memory .entry)) (now (registers .entry)) (now (touched .entry)) (now (columns .entry)) (now (numbers .entry)) (now (lengths .entry))))) × Fit (parts (r .core) (now (memory .exit)) (now (registers .exit)) (now (touched .exit)) (now (columns .exit)) (now (numbers .exit)) (now (lengths .exit))) ⌝ }
 {
     let mut s = from;
     let limit = budget.0;
@@ -105,10 +103,8 @@ pub(crate) fn run_parts(
             memory,
             registers,
             touched,
-            texts,
+            columns,
             numbers,
-            addresses,
-            phases,
             lengths,
         );
         let next = t.core;
@@ -126,14 +122,12 @@ fn run_checked(
     memory: &mut [u16; 256],
     registers: &mut [u16; 16],
     touched: &mut [u8; 256],
-    texts: &mut [u8; 16384],
+    columns: &mut [u8; 17408],
     numbers: &mut [u64; 512],
-    addresses: &mut [u8; 512],
-    phases: &mut [u8; 512],
     lengths: &mut [u8; 512],
 ) -> RanCore
-    requires { ⌜ Sizes (parts core (now memory) (now registers) (now touched) (now texts) (now numbers) (now addresses) (now phases) (now lengths)) ⌝ }
-    ensures { λ r. ⌜ (record { stop = r .stop; executed = r .executed .0; machine = view (parts (r .core) (now (memory .exit)) (now (registers .exit)) (now (touched .exit)) (now (texts .exit)) (now (numbers .exit)) (now (addresses .exit)) (now (phases .exit)) (now (lengths .exit))) } ≡ runOutcome (partsOk core size (now (touched .entry)) (now (lengths .entry))) (now (breakpoints .entry)) (budget .0) (view (parts core (now (memory .entry)) (now (registers .entry)) (now (touched .entry)) (now (texts .entry)) (now (numbers .entry)) (now (addresses .entry)) (now (phases .entry)) (now (lengths .entry))))) × (partsOk core size (now (touched .entry)) (now (lengths .entry)) ≡ false → parts (r .core) (now (memory .exit)) (now (registers .exit)) (now (touched .exit)) (now (texts .exit)) (now (numbers .exit)) (now (addresses .exit)) (now (phases .exit)) (now (lengths .exit)) ≡ parts core (now (memory .entry)) (now (registers .entry)) (now (touched .entry)) (now (texts .entry)) (now (numbers .entry)) (now (addresses .entry)) (now (phases .entry)) (now (lengths .entry))) × (partsOk core size (now (touched .entry)) (now (lengths .entry)) ≡ true → partsOk (r .core) size (now (touched .exit)) (now (lengths .exit)) ≡ true) ⌝ }
+    requires { ⌜ Sizes (parts core (now memory) (now registers) (now touched) (now columns) (now numbers) (now lengths)) ⌝ }
+    ensures { λ r. ⌜ (record { stop = r .stop; executed = r .executed .0; machine = view (parts (r .core) (now (memory .exit)) (now (registers .exit)) (now (touched .exit)) (now (columns .exit)) (now (numbers .exit)) (now (lengths .exit))) } ≡ runOutcome (partsOk core size (now (touched .entry)) (now (lengths .entry))) (now (breakpoints .entry)) (budget .0) (view (parts core (now (memory .entry)) (now (registers .entry)) (now (touched .entry)) (now (columns .entry)) (now (numbers .entry)) (now (lengths .entry))))) × (partsOk core size (now (touched .entry)) (now (lengths .entry)) ≡ false → parts (r .core) (now (memory .exit)) (now (registers .exit)) (now (touched .exit)) (now (columns .exit)) (now (numbers .exit)) (now (lengths .exit)) ≡ parts core (now (memory .entry)) (now (registers .entry)) (now (touched .entry)) (now (columns .entry)) (now (numbers .entry)) (now (lengths .entry))) × (partsOk core size (now (touched .entry)) (now (lengths .entry)) ≡ true → partsOk (r .core) size (now (touched .exit)) (now (lengths .exit)) ≡ true) ⌝ }
 {
     let good = parts_ok(core, size, touched, lengths);
     if !good {
@@ -157,10 +151,8 @@ fn run_checked(
         memory,
         registers,
         touched,
-        texts,
+        columns,
         numbers,
-        addresses,
-        phases,
         lengths,
     )
 }
@@ -191,10 +183,8 @@ impl Machine {
         };
         let mut registers = self.registers;
         let mut memory = self.memory;
-        let mut phases = self.phases;
-        let mut addresses = self.addresses;
         let mut numbers = self.numbers;
-        let mut texts = self.texts;
+        let mut columns = self.columns;
         let mut lengths = self.lengths;
         let mut touched = self.touched;
         let r = run_checked(
@@ -205,10 +195,8 @@ impl Machine {
             &mut memory,
             &mut registers,
             &mut touched,
-            &mut texts,
+            &mut columns,
             &mut numbers,
-            &mut addresses,
-            &mut phases,
             &mut lengths,
         );
         let end = r.core;
@@ -222,10 +210,8 @@ impl Machine {
             registers,
             state,
             counters,
-            texts,
+            columns,
             numbers,
-            addresses,
-            phases,
             lengths,
             trace_start: end.trace_start,
             trace_len: end.trace_len,

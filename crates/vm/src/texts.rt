@@ -5,20 +5,20 @@ ghost use mathlib.Core.List.{[]};
 ghost use lib.ListN.{length, getD};
 ghost use Rattle.isa.specs.Text.{text};
 ghost use Rattle.vm.specs.Instruction.{textsFrom};
-ghost use Rattle.trace.specs.Trace.{textAt, liveTexts, newest};
+ghost use Rattle.trace.specs.Trace.{textAt, liveTexts, newest, textsIn, columnsLength};
 use isa::Text;
 use plan::TransferPlan;
 use trace::Ring;
 
 // The text in slot `at`.
-fn text_at(at: usize, texts: &[u8; 16384], lengths: &[u8; 512]) -> Text
-    requires { ⌜ (at < 512) × (length (now texts) ≡ 16384) × (length (now lengths) ≡ 512) ⌝ }
-    ensures { λ r. ⌜ r ≡ textAt (now (texts .entry)) (now (lengths .entry)) at ⌝ }
+fn text_at(at: usize, columns: &[u8; 17408], lengths: &[u8; 512]) -> Text
+    requires { ⌜ (at < 512) × (length (now columns) ≡ columnsLength) × (length (now lengths) ≡ 512) ⌝ }
+    ensures { λ r. ⌜ r ≡ textAt (textsIn (now (columns .entry))) (now (lengths .entry)) at ⌝ }
 {
     let mut bytes = [0u8; 32];
     let mut i = 0;
     while i < 32 {
-        bytes[i] = texts[at * 32 + i];
+        bytes[i] = columns[at * 32 + i];
         i += 1;
     }
     Text {
@@ -32,39 +32,39 @@ pub(crate) fn newest_text(
     ring: Ring,
     n: usize,
     i: usize,
-    texts: &[u8; 16384],
+    columns: &[u8; 17408],
     lengths: &[u8; 512],
 ) -> Text
-    requires { ⌜ (n ≤ ring .len) × (ring .len ≤ 512) × (length (now texts) ≡ 16384) × (length (now lengths) ≡ 512) ⌝ }
-    ensures { λ r. ⌜ r ≡ getD (newest n (liveTexts (ring .start) (ring .len) (now (texts .entry)) (now (lengths .entry)))) i (text []) ⌝ }
+    requires { ⌜ (n ≤ ring .len) × (ring .len ≤ 512) × (length (now columns) ≡ columnsLength) × (length (now lengths) ≡ 512) ⌝ }
+    ensures { λ r. ⌜ r ≡ getD (newest n (liveTexts (ring .start) (ring .len) (textsIn (now (columns .entry))) (now (lengths .entry)))) i (text []) ⌝ }
 {
     if n <= i {
         return Text::from_bytes(b"");
     }
     let from = ring.start % 512;
     let first = from + ring.len - n;
-    text_at((first + i) % 512, texts, lengths)
+    text_at((first + i) % 512, columns, lengths)
 }
 
 // The texts of the newest `n` records.
 pub(crate) fn newest_texts(
     ring: Ring,
     n: usize,
-    texts: &[u8; 16384],
+    columns: &[u8; 17408],
     lengths: &[u8; 512],
 ) -> TransferPlan
-    requires { ⌜ (n ≤ 7) × (n ≤ ring .len) × (ring .len ≤ 512) × (length (now texts) ≡ 16384) × (length (now lengths) ≡ 512) ⌝ }
-    ensures { λ r. ⌜ r ≡ textsFrom (newest n (liveTexts (ring .start) (ring .len) (now (texts .entry)) (now (lengths .entry)))) ⌝ }
+    requires { ⌜ (n ≤ 7) × (n ≤ ring .len) × (ring .len ≤ 512) × (length (now columns) ≡ columnsLength) × (length (now lengths) ≡ 512) ⌝ }
+    ensures { λ r. ⌜ r ≡ textsFrom (newest n (liveTexts (ring .start) (ring .len) (textsIn (now (columns .entry))) (now (lengths .entry)))) ⌝ }
 {
     let count = n as u8;
     let all = [
-        newest_text(ring, n, 0, texts, lengths),
-        newest_text(ring, n, 1, texts, lengths),
-        newest_text(ring, n, 2, texts, lengths),
-        newest_text(ring, n, 3, texts, lengths),
-        newest_text(ring, n, 4, texts, lengths),
-        newest_text(ring, n, 5, texts, lengths),
-        newest_text(ring, n, 6, texts, lengths),
+        newest_text(ring, n, 0, columns, lengths),
+        newest_text(ring, n, 1, columns, lengths),
+        newest_text(ring, n, 2, columns, lengths),
+        newest_text(ring, n, 3, columns, lengths),
+        newest_text(ring, n, 4, columns, lengths),
+        newest_text(ring, n, 5, columns, lengths),
+        newest_text(ring, n, 6, columns, lengths),
     ];
     TransferPlan { texts: all, count }
 }

@@ -100,14 +100,12 @@ pub(crate) fn tick_parts(
     memory: &mut [u16; 256],
     registers: &mut [u16; 16],
     touched: &mut [u8; 256],
-    texts: &mut [u8; 16384],
+    columns: &mut [u8; 17408],
     numbers: &mut [u64; 512],
-    addresses: &mut [u8; 512],
-    phases: &mut [u8; 512],
     lengths: &mut [u8; 512],
 ) -> Ticked
-    requires { ⌜ (s .state .control .halted ≡ false) × Fit (parts s (now memory) (now registers) (now touched) (now texts) (now numbers) (now addresses) (now phases) (now lengths)) ⌝ }
-    ensures { λ r. ⌜ (view (parts (r .core) (now (memory .exit)) (now (registers .exit)) (now (touched .exit)) (now (texts .exit)) (now (numbers .exit)) (now (addresses .exit)) (now (phases .exit)) (now (lengths .exit))) ≡ microStep (view (parts s (now (memory .entry)) (now (registers .entry)) (now (touched .entry)) (now (texts .entry)) (now (numbers .entry)) (now (addresses .entry)) (now (phases .entry)) (now (lengths .entry))))) × (r .done ≡ nextDone (view (parts s (now (memory .entry)) (now (registers .entry)) (now (touched .entry)) (now (texts .entry)) (now (numbers .entry)) (now (addresses .entry)) (now (phases .entry)) (now (lengths .entry))))) × Fit (parts (r .core) (now (memory .exit)) (now (registers .exit)) (now (touched .exit)) (now (texts .exit)) (now (numbers .exit)) (now (addresses .exit)) (now (phases .exit)) (now (lengths .exit))) × ((r .core .state .control .tick ≡ 0 → ⊥) → r .core .state .control .halted ≡ false) ⌝ }
+    requires { ⌜ (s .state .control .halted ≡ false) × Fit (parts s (now memory) (now registers) (now touched) (now columns) (now numbers) (now lengths)) ⌝ }
+    ensures { λ r. ⌜ (view (parts (r .core) (now (memory .exit)) (now (registers .exit)) (now (touched .exit)) (now (columns .exit)) (now (numbers .exit)) (now (lengths .exit))) ≡ microStep (view (parts s (now (memory .entry)) (now (registers .entry)) (now (touched .entry)) (now (columns .entry)) (now (numbers .entry)) (now (lengths .entry))))) × (r .done ≡ nextDone (view (parts s (now (memory .entry)) (now (registers .entry)) (now (touched .entry)) (now (columns .entry)) (now (numbers .entry)) (now (lengths .entry))))) × Fit (parts (r .core) (now (memory .exit)) (now (registers .exit)) (now (touched .exit)) (now (columns .exit)) (now (numbers .exit)) (now (lengths .exit))) × ((r .core .state .control .tick ≡ 0 → ⊥) → r .core .state .control .halted ≡ false) ⌝ }
 {
     let old = s.state;
     let o = read_operands(old, memory, registers);
@@ -133,10 +131,8 @@ pub(crate) fn tick_parts(
         counters.micro_operations,
         new.control.instruction_address,
         phase,
-        texts,
+        columns,
         numbers,
-        addresses,
-        phases,
         lengths,
     );
     let core = Core {

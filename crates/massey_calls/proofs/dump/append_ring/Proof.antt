@@ -7,10 +7,10 @@ use Rattle.massey_calls.proofs.dump.append_ring.Statement.{statement}
 use Rattle.massey_calls.proofs.dump.append_ring.Tie as tie
 
 abbrev Inv-loop : tie.InvT-loop
-Inv-loop out₀ from start n texts numbers addresses phases lengths at₀ i₀ out at i = (length out ≡ length out₀) × (i ≤ 512)
+Inv-loop out₀ from start n columns numbers lengths at₀ i₀ out at i = (length out ≡ length out₀) × (i ≤ 512)
 
 abbrev μ-loop : tie.MeasureT-loop
-μ-loop out₀ from start n texts numbers addresses phases lengths at₀ i₀ out at i = 512 - i
+μ-loop out₀ from start n columns numbers lengths at₀ i₀ out at i = 512 - i
 
 loop-holds : tie.Need-loop-holds Inv-loop μ-loop
 loop-holds c = search needs
@@ -24,8 +24,8 @@ returns c = search needs
 add-slot : tie.Need-add-slot Inv-loop μ-loop
 add-slot c = search needs
 
-element-copy-out-live-text : tie.Need-element-copy-out-live-text Inv-loop μ-loop
-element-copy-out-live-text c = search needs
+element-copy-out-len : tie.Need-element-copy-out-len Inv-loop μ-loop
+element-copy-out-len c = search needs
 
 live-text-requires : tie.Need-live-text-requires Inv-loop μ-loop
 live-text-requires c κs = search needs
@@ -36,14 +36,17 @@ mul-append-record c = search needs
 element-copy-out-append-record : tie.Need-element-copy-out-append-record Inv-loop μ-loop
 element-copy-out-append-record c = search needs
 
+add-append-record : tie.Need-add-append-record Inv-loop μ-loop
+add-append-record c = search needs
+
 element-copy-out-append-record-2 : tie.Need-element-copy-out-append-record-2 Inv-loop μ-loop
 element-copy-out-append-record-2 c = search needs
 
+add-append-record-2 : tie.Need-add-append-record-2 Inv-loop μ-loop
+add-append-record-2 c = search needs
+
 element-copy-out-append-record-3 : tie.Need-element-copy-out-append-record-3 Inv-loop μ-loop
 element-copy-out-append-record-3 c = search needs
-
-element-copy-out-append-record-4 : tie.Need-element-copy-out-append-record-4 Inv-loop μ-loop
-element-copy-out-append-record-4 c = search needs
 
 append-record-requires : tie.Need-append-record-requires Inv-loop μ-loop
 append-record-requires c κs = search needs
@@ -73,13 +76,14 @@ append-ring-spec =
     same-length
     returns
     add-slot
-    element-copy-out-live-text
+    element-copy-out-len
     live-text-requires
     mul-append-record
     element-copy-out-append-record
+    add-append-record
     element-copy-out-append-record-2
+    add-append-record-2
     element-copy-out-append-record-3
-    element-copy-out-append-record-4
     append-record-requires
     add-i
     loop-less

@@ -3,7 +3,7 @@
 use mathlib.Core.Path.{refl}
 use mathlib.Core.List.{[], _∷_}
 use native.Mathlib.Omega.{arith}
-use Rattle.guard.specs.Marks.{marked}
+use Rattle.marks.specs.Marks.{marked}
 use Rattle.encoding.proofs.Written.{overs-eq}
 use Rattle.report.specs.Report.{shown, controlBytes, countBytes, faultBytes, endRecord}
 use Rattle.report.proofs.Shows.{length-control, length-counts, length-fault}

@@ -2,7 +2,7 @@
 -- Assumes nothing.
 use mathlib.Core.List.{[], _∷_}
 use native.Mathlib.Omega.{arith}
-use Rattle.guard.specs.Marks.{marked}
+use Rattle.marks.specs.Marks.{marked}
 use Rattle.encoding.proofs.Written.{overs-eq}
 use Rattle.report.specs.Report.{valueRecord, shownText, startRecord}
 use Rattle.report.proofs.Shows.{length-value, length-shown}

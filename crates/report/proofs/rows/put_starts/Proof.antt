@@ -10,7 +10,7 @@ use denote.Ref.{now}
 use Rattle.encoding.specs.Bytes.{over, eachFrom}
 use Rattle.encoding.proofs.Written.{each-turn, each-done}
 use Rattle.vm.specs.Calls.{imageWords}
-use Rattle.guard.specs.Marks.{marked}
+use Rattle.marks.specs.Marks.{marked}
 use Rattle.report.specs.Report.{startRecord, startRecords}
 use Rattle.report.proofs.Accepts.{words-at}
 use Rattle.report.proofs.Shows.{length-start}

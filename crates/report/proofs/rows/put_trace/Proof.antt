@@ -16,15 +16,15 @@ use borrow.Author.Needs.{needs}
 use Rattle.report.proofs.rows.put_trace.Statement.{statement}
 use Rattle.report.proofs.rows.put_trace.Tie as tie
 
-abbrev piece : ℕ → List ℕ → List ℕ → List ℕ → List ℕ → ℕ → List ℕ
-piece start x i a p j = slotBytes x i a p ((start % 512 + j) % 512)
+abbrev piece : ℕ → List ℕ → List ℕ → ℕ → List ℕ
+piece start k i j = slotBytes k i ((start % 512 + j) % 512)
 
 abbrev Inv-loop : tie.InvT-loop
-Inv-loop out₀ at start n texts numbers addresses phases from i₀ out i =
-    (i ≤ n) × (length out ≡ length out₀) × (over out (at + 43 * i) (eachFrom (piece start texts numbers addresses phases) i (n - i)) ≡ over out₀ at (eachFrom (piece start texts numbers addresses phases) 0 n))
+Inv-loop out₀ at start n columns numbers from i₀ out i =
+    (i ≤ n) × (length out ≡ length out₀) × (over out (at + 43 * i) (eachFrom (piece start columns numbers) i (n - i)) ≡ over out₀ at (eachFrom (piece start columns numbers) 0 n))
 
 abbrev μ-loop : tie.MeasureT-loop
-μ-loop out₀ at start n texts numbers addresses phases from i₀ out i = n - i
+μ-loop out₀ at start n columns numbers from i₀ out i = n - i
 
 loop-holds : tie.Need-loop-holds Inv-loop μ-loop
 loop-holds c = (search needs, refl, rw (add-zero, sub-zero))
@@ -50,8 +50,14 @@ mul-put-traced-2 c = search needs
 shared-slice-read-put-traced : tie.Need-shared-slice-read-put-traced Inv-loop μ-loop
 shared-slice-read-put-traced c = search needs
 
+add-put-traced-2 : tie.Need-add-put-traced-2 Inv-loop μ-loop
+add-put-traced-2 c = search needs
+
 shared-slice-read-put-traced-2 : tie.Need-shared-slice-read-put-traced-2 Inv-loop μ-loop
 shared-slice-read-put-traced-2 c = search needs
+
+add-put-traced-3 : tie.Need-add-put-traced-3 Inv-loop μ-loop
+add-put-traced-3 c = search needs
 
 shared-slice-read-put-traced-3 : tie.Need-shared-slice-read-put-traced-3 Inv-loop μ-loop
 shared-slice-read-put-traced-3 c = search needs
@@ -79,15 +85,15 @@ loop-again c =
     let p = c .before .before in
     let a = p .before .before .before .before .before .before .before in
     let l = a .loop in
-    let b = a .before .before .before .before .before .before in
+    let b = a .before .before .before .before in
     let s = b .args in
-    let f = piece (s .start) (now (s .texts)) (now (s .numbers)) (now (s .addresses)) (now (s .phases)) in
+    let f = piece (s .start) (now (s .columns)) (now (s .numbers)) in
     let k = (s .start % 512 + l .i) % 512 in
     let e : k * 32 + 32 - k * 32 ≡ 32 = omega arith in (
       omega arith,
       p .put-traced .kept .0 ∙ l .inv .1,
       rw (p .put-traced .ensures, e)
-          (each-turn 43 f (l .out) (s .at) (l .i) (s .n) (length-slot (now (s .texts)) (now (s .numbers)) (now (s .addresses)) (now (s .phases)) ((s .start % 512 + l .i) % 512) (b .pre .1) (omega arith)) (omega arith) (omega arith) ∙ l .inv .2),
+          (each-turn 43 f (l .out) (s .at) (l .i) (s .n) (length-slot (now (s .columns)) (now (s .numbers)) ((s .start % 512 + l .i) % 512) (b .pre .1) (omega arith)) (omega arith) (omega arith) ∙ l .inv .2),
     )
 
 same-length : tie.Need-same-length Inv-loop μ-loop
@@ -97,8 +103,8 @@ returns : tie.Need-returns Inv-loop μ-loop
 unfolding slotRecords
 returns c =
     let l = c .before .loop in
-    let s = c .before .before .before .before .before .before .before .args in
-    let f = piece (s .start) (now (s .texts)) (now (s .numbers)) (now (s .addresses)) (now (s .phases)) in
+    let s = c .before .before .before .before .before .args in
+    let f = piece (s .start) (now (s .columns)) (now (s .numbers)) in
     sym (each-done f (l .out) (s .at + 43 * l .i) (l .i) (s .n) (omega arith)) ∙ l .inv .2
 
 pub put-trace-spec : {M : Type 1} → statement M
@@ -115,7 +121,9 @@ put-trace-spec =
     add-put-traced
     mul-put-traced-2
     shared-slice-read-put-traced
+    add-put-traced-2
     shared-slice-read-put-traced-2
+    add-put-traced-3
     shared-slice-read-put-traced-3
     sub-put-traced
     part-put-traced-start

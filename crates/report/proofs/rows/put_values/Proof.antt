@@ -9,7 +9,7 @@ use lib.ListN.{length, getD}
 use denote.Ref.{now}
 use Rattle.encoding.specs.Bytes.{over, eachFrom}
 use Rattle.encoding.proofs.Written.{each-turn, each-done}
-use Rattle.guard.specs.Marks.{marked}
+use Rattle.marks.specs.Marks.{marked}
 use Rattle.report.specs.Report.{valueRecord, valueRecords}
 use Rattle.report.proofs.Shows.{length-value}
 use borrow.Author.Needs.{needs}

@@ -3,7 +3,7 @@
 use mathlib.Core.List.{[], _∷_}
 use native.Mathlib.Omega.{arith}
 use denote.Ref.{now}
-use Rattle.guard.specs.Marks.{marked}
+use Rattle.marks.specs.Marks.{marked}
 use Rattle.encoding.proofs.Written.{overs-eq}
 use Rattle.report.specs.Report.{valueRecords}
 use Rattle.report.proofs.Lengths.{length-values}

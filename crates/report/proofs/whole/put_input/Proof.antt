@@ -6,7 +6,7 @@ use native.Mathlib.Omega.{arith}
 use denote.Ref.{now}
 use lib.ListN.{length}
 use Rattle.vm.specs.Calls.{imageWords}
-use Rattle.guard.specs.Marks.{marked}
+use Rattle.marks.specs.Marks.{marked}
 use Rattle.encoding.proofs.Written.{overs-eq}
 use Rattle.report.specs.Report.{headRecord, startRecords, byteRecords}
 use Rattle.report.proofs.Shows.{length-head}

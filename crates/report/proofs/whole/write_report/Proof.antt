@@ -5,13 +5,14 @@ use native.Mathlib.Omega.{arith}
 use denote.Ref.{now}
 use lib.ListN.{length}
 use Rattle.report.specs.Slots.{inputFrom}
+use Rattle.trace.specs.Trace.{columnsLength}
 use Rattle.report.proofs.Wholes.{whole-served}
 use borrow.Author.Needs.{needs}
 use Rattle.report.proofs.whole.write_report.Statement.{statement}
 use Rattle.report.proofs.whole.write_report.Tie as tie
 
-texts : (c : tie.Start) → length (c .args .machine .texts) ≡ 16384
-texts c = search needs
+columns : (c : tie.Start) → length (c .args .machine .columns) ≡ columnsLength
+columns c = search needs
 
 touched : (c : tie.Start) → length (c .args .machine .touched) ≡ 256
 touched c = search needs
@@ -41,7 +42,7 @@ returns c =
     let s = q .before .before .before .before .before .before .before .before .before in
     let a = s .args in
     whole-served (inputFrom (now (a .image)) (now (a .marks)) (a .budget) (now (a .breakpoints))) (a .stop) (a .machine) (s .pre .5) (now (a .register-marks)) (now (a .memory-marks)) (a .mark) (now (a .out))
-    (texts s) (touched s) (omega (arith, s .pre .0, s .pre .2)) (p .put-run .ensures .0)
+    (columns s) (touched s) (omega (arith, s .pre .0, s .pre .2)) (p .put-run .ensures .0)
     (p .put-run .ensures .1 ∙ rw (q .put-input .ensures, q .before .before .number .ensures))
 
 pub write-report-spec : {M : Type 1} → statement M

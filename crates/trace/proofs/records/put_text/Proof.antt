@@ -10,7 +10,7 @@ use Rattle.trace.proofs.records.put_text.Statement.{statement}
 use Rattle.trace.proofs.records.put_text.Tie as tie
 
 abbrev Inv-loop : tie.InvT-loop
-Inv-loop at out₀ t i₀ out i = (out ≡ paste out₀ (at * 32) (t .bytes) i) × (i ≤ 32) × (length out ≡ 16384) × (length out₀ ≡ 16384) × (length (t .bytes) ≡ 32) × (at < 512)
+Inv-loop at out₀ t i₀ out i = (out ≡ paste out₀ (at * 32) (t .bytes) i) × (i ≤ 32) × (length out ≡ 17408) × (length out₀ ≡ 17408) × (length (t .bytes) ≡ 32) × (at < 512)
 
 abbrev μ-loop : tie.MeasureT-loop
 μ-loop at out₀ t i₀ out i = 32 - i

@@ -8,7 +8,7 @@ use denote.Ref.{now}
 use Rattle.vm.specs.Instruction.{stepInstruction}
 use Rattle.guard.specs.Stops.{stop, go}
 use Rattle.vm.specs.View.{parts, view, Fit}
-use Rattle.guard.specs.Marks.{marked, instructionMarks}
+use Rattle.marks.specs.Marks.{marked, instructionMarks}
 use Rattle.vm.specs.Guard.{Guarded, guard, guardedRun}
 use Rattle.guard.specs.Stops.{verdictOf}
 use Rattle.vm.proofs.Guards.{going, guard-stops, guard-goes, closed-view, closed-fit}
@@ -16,20 +16,20 @@ use Rattle.vm.proofs.guarded.guarded_parts.Statement.{statement}
 use Rattle.vm.proofs.guarded.guarded_parts.Tie as tie
 
 abbrev Inv-loop : tie.InvT-loop
-Inv-loop breakpoints marks₀ register-marks₀ memory₀ registers₀ touched₀ texts₀ numbers₀ addresses₀ phases₀ lengths₀ s₀ limit begun₀ mdr₀ marks register-marks memory registers touched texts numbers addresses phases lengths s begun mdr =
-    (guardedRun marked breakpoints begun (limit - begun) (record { machine = view (parts s memory registers touched texts numbers addresses phases lengths); marks = record { memory = marks; registers = register-marks; mdr = mdr } }) ≡ guardedRun marked breakpoints 0 limit (record { machine = view (parts s₀ memory₀ registers₀ touched₀ texts₀ numbers₀ addresses₀ phases₀ lengths₀); marks = record { memory = marks₀; registers = register-marks₀; mdr = 0 } }))
+Inv-loop breakpoints marks₀ register-marks₀ memory₀ registers₀ touched₀ columns₀ numbers₀ lengths₀ s₀ limit begun₀ mdr₀ marks register-marks memory registers touched columns numbers lengths s begun mdr =
+    (guardedRun marked breakpoints begun (limit - begun) (record { machine = view (parts s memory registers touched columns numbers lengths); marks = record { memory = marks; registers = register-marks; mdr = mdr } }) ≡ guardedRun marked breakpoints 0 limit (record { machine = view (parts s₀ memory₀ registers₀ touched₀ columns₀ numbers₀ lengths₀); marks = record { memory = marks₀; registers = register-marks₀; mdr = 0 } }))
     × (begun ≤ limit)
     × (limit < 18446744073709551616)
-    × Fit (parts s memory registers touched texts numbers addresses phases lengths)
+    × Fit (parts s memory registers touched columns numbers lengths)
 
 abbrev μ-loop : tie.MeasureT-loop
-μ-loop breakpoints marks₀ register-marks₀ memory₀ registers₀ touched₀ texts₀ numbers₀ addresses₀ phases₀ lengths₀ s₀ limit begun₀ mdr₀ marks register-marks memory registers touched texts numbers addresses phases lengths s begun mdr = limit - begun
+μ-loop breakpoints marks₀ register-marks₀ memory₀ registers₀ touched₀ columns₀ numbers₀ lengths₀ s₀ limit begun₀ mdr₀ marks register-marks memory registers touched columns numbers lengths s begun mdr = limit - begun
 
 loop-holds : tie.Need-loop-holds Inv-loop μ-loop
 loop-holds c =
     let a = c .before .args in
     let z : a .budget .0 - 0 ≡ a .budget .0 = omega arith in
-    (ap (λ (j : ℕ). guardedRun marked (now (a .breakpoints)) 0 j (record { machine = view (parts (a .from) (now (a .memory)) (now (a .registers)) (now (a .touched)) (now (a .texts)) (now (a .numbers)) (now (a .addresses)) (now (a .phases)) (now (a .lengths))); marks = record { memory = now (a .marks); registers = now (a .register-marks); mdr = 0 } })) z, omega arith, search needs, c .before .pre)
+    (ap (λ (j : ℕ). guardedRun marked (now (a .breakpoints)) 0 j (record { machine = view (parts (a .from) (now (a .memory)) (now (a .registers)) (now (a .touched)) (now (a .columns)) (now (a .numbers)) (now (a .lengths))); marks = record { memory = now (a .marks); registers = now (a .register-marks); mdr = 0 } })) z, omega arith, search needs, c .before .pre)
 
 cast-pc : tie.Need-cast-pc Inv-loop μ-loop
 cast-pc c = search needs
@@ -56,7 +56,7 @@ returns : tie.Need-returns Inv-loop μ-loop
 returns c =
     let a = c .before .before .before .before .before .before .before .before .before .before .before .before .args in
     let l = c .before .before .before .before .before .before .before .before .before .before .loop in
-    let q = parts (l .s) (l .memory) (l .registers) (l .touched) (l .texts) (l .numbers) (l .addresses) (l .phases) (l .lengths) in
+    let q = parts (l .s) (l .memory) (l .registers) (l .touched) (l .columns) (l .numbers) (l .lengths) in
     let g : Guarded = record { machine = view q; marks = record { memory = l .marks; registers = l .register-marks; mdr = l .mdr } } in
     let b = now (a .breakpoints) in
     let n = a .budget .0 - l .begun in
@@ -64,7 +64,7 @@ returns c =
     let x = v .0 .0 in
     let e : guard marked b (l .begun) n g ≡ stop x = sym (c .before .before .before .before .judge .ensures) ∙ ap verdictOf (v .1) in
     let z = c .closed-core .ensures in (
-      (λ i. record { stop = x; executed = l .begun; guarded = record { machine = view (parts (z i) (l .memory) (l .registers) (l .touched) (l .texts) (l .numbers) (l .addresses) (l .phases) (l .lengths)); marks = g .marks } })
+      (λ i. record { stop = x; executed = l .begun; guarded = record { machine = view (parts (z i) (l .memory) (l .registers) (l .touched) (l .columns) (l .numbers) (l .lengths)); marks = g .marks } })
           ∙ (λ i. record { stop = x; executed = l .begun; guarded = record { machine = closed-view x q i; marks = g .marks } })
           ∙ sym (guard-stops marked b (l .begun) n g x e)
           ∙ l .inv .0,
@@ -79,29 +79,29 @@ mark-instruction-requires c κs = search needs
 
 instruction-parts-requires : tie.Need-instruction-parts-requires Inv-loop μ-loop
 instruction-parts-requires c κs =
+    let a = c .before .before .before .before .before .before .before .before .before .before .before .before .before .before .before .before .before .before .before .args in
+    let l = c .before .before .before .before .before .before .before .before .before .before .before .before .before .before .before .before .before .loop in
+    let q = parts (l .s) (l .memory) (l .registers) (l .touched) (l .columns) (l .numbers) (l .lengths) in
+    let g : Guarded = record { machine = view q; marks = record { memory = l .marks; registers = l .register-marks; mdr = l .mdr } } in
+    let b = now (a .breakpoints) in
+    let n = a .budget .0 - l .begun in
+    let e : guard marked b (l .begun) n g ≡ go = sym (c .before .before .before .before .before .before .before .before .before .before .before .judge .ensures) ∙ ap verdictOf (c .before .before .before .before .before .before .before .before .before .enum-told .given .1) in
+    (omega arith, going marked b (l .begun) n g e .0, l .inv .3)
+
+-- a turn counts against the budget
+counts : (c : tie.After-next Inv-loop μ-loop) → let l = c .before .before .before .before .before .before .before .before .before .before .before .before .before .before .before .before .before .before .before .loop in l .begun < c .before .before .before .before .before .before .before .before .before .before .before .before .before .before .before .before .before .before .before .before .before .args .budget .0
+counts c =
     let a = c .before .before .before .before .before .before .before .before .before .before .before .before .before .before .before .before .before .before .before .before .before .args in
     let l = c .before .before .before .before .before .before .before .before .before .before .before .before .before .before .before .before .before .before .before .loop in
-    let q = parts (l .s) (l .memory) (l .registers) (l .touched) (l .texts) (l .numbers) (l .addresses) (l .phases) (l .lengths) in
+    let q = parts (l .s) (l .memory) (l .registers) (l .touched) (l .columns) (l .numbers) (l .lengths) in
     let g : Guarded = record { machine = view q; marks = record { memory = l .marks; registers = l .register-marks; mdr = l .mdr } } in
     let b = now (a .breakpoints) in
     let n = a .budget .0 - l .begun in
     let e : guard marked b (l .begun) n g ≡ go = sym (c .before .before .before .before .before .before .before .before .before .before .before .before .before .judge .ensures) ∙ ap verdictOf (c .before .before .before .before .before .before .before .before .before .before .before .enum-told .given .1) in
-    (omega arith, going marked b (l .begun) n g e .0, l .inv .3)
-
--- a turn counts against the budget
-counts : (c : tie.After-next Inv-loop μ-loop) → let l = c .before .before .before .before .before .before .before .before .before .before .before .before .before .before .before .before .before .before .before .before .before .loop in l .begun < c .before .before .before .before .before .before .before .before .before .before .before .before .before .before .before .before .before .before .before .before .before .before .before .args .budget .0
-counts c =
-    let a = c .before .before .before .before .before .before .before .before .before .before .before .before .before .before .before .before .before .before .before .before .before .before .before .args in
-    let l = c .before .before .before .before .before .before .before .before .before .before .before .before .before .before .before .before .before .before .before .before .before .loop in
-    let q = parts (l .s) (l .memory) (l .registers) (l .touched) (l .texts) (l .numbers) (l .addresses) (l .phases) (l .lengths) in
-    let g : Guarded = record { machine = view q; marks = record { memory = l .marks; registers = l .register-marks; mdr = l .mdr } } in
-    let b = now (a .breakpoints) in
-    let n = a .budget .0 - l .begun in
-    let e : guard marked b (l .begun) n g ≡ go = sym (c .before .before .before .before .before .before .before .before .before .before .before .before .before .before .before .judge .ensures) ∙ ap verdictOf (c .before .before .before .before .before .before .before .before .before .before .before .before .before .enum-told .given .1) in
     omega (arith, going marked b (l .begun) n g e .1, l .inv .1)
 
 add-begun : tie.Need-add-begun Inv-loop μ-loop
-add-begun c = let l = c .before .before .before .before .before .before .before .before .before .before .before .before .before .before .before .before .before .before .before .before .before .loop in omega (arith, counts c, l .inv .2)
+add-begun c = let l = c .before .before .before .before .before .before .before .before .before .before .before .before .before .before .before .before .before .before .before .loop in omega (arith, counts c, l .inv .2)
 
 loop-less : tie.Need-loop-less Inv-loop μ-loop
 loop-less c = omega (arith, counts c)
@@ -109,15 +109,15 @@ loop-less c = omega (arith, counts c)
 loop-again : tie.Need-loop-again Inv-loop μ-loop
 unfolding stepInstruction instructionMarks
 loop-again c =
-    let a = c .before .before .before .before .before .before .before .before .before .before .before .before .before .before .before .before .before .before .before .before .before .before .before .args in
-    let l = c .before .before .before .before .before .before .before .before .before .before .before .before .before .before .before .before .before .before .before .before .before .loop in
-    let q = parts (l .s) (l .memory) (l .registers) (l .touched) (l .texts) (l .numbers) (l .addresses) (l .phases) (l .lengths) in
+    let a = c .before .before .before .before .before .before .before .before .before .before .before .before .before .before .before .before .before .before .before .before .before .args in
+    let l = c .before .before .before .before .before .before .before .before .before .before .before .before .before .before .before .before .before .before .before .loop in
+    let q = parts (l .s) (l .memory) (l .registers) (l .touched) (l .columns) (l .numbers) (l .lengths) in
     let g : Guarded = record { machine = view q; marks = record { memory = l .marks; registers = l .register-marks; mdr = l .mdr } } in
     let b = now (a .breakpoints) in
     let n = a .budget .0 - l .begun in
-    let e : guard marked b (l .begun) n g ≡ go = sym (c .before .before .before .before .before .before .before .before .before .before .before .before .before .before .before .judge .ensures) ∙ ap verdictOf (c .before .before .before .before .before .before .before .before .before .before .before .before .before .enum-told .given .1) in
+    let e : guard marked b (l .begun) n g ≡ go = sym (c .before .before .before .before .before .before .before .before .before .before .before .before .before .judge .ensures) ∙ ap verdictOf (c .before .before .before .before .before .before .before .before .before .before .before .enum-told .given .1) in
     let t = c .before .instruction-parts .ensures in
-    let k = c .before .before .before .before .before .before .before .before .before .before .mark-instruction .ensures in
+    let k = c .before .before .before .before .before .before .before .before .mark-instruction .ensures in
     let z : a .budget .0 - (l .begun + 1) ≡ n - 1 = omega arith in (
       (λ i. guardedRun marked b (l .begun + 1) (z i) (record { machine = t .0 i .machine; marks = k i }))
           ∙ sym (guard-goes marked b (l .begun) n g e)

@@ -6,7 +6,7 @@ use mathlib.Core.Bool.{cond}
 use lib.Dec.{eqb}
 use lib.ListN.{replicate}
 use denote.Ref.{now}
-use Rattle.guard.specs.Marks.{marked}
+use Rattle.marks.specs.Marks.{marked}
 use Rattle.vm.specs.Calls.{partsOf, viewOf}
 use Rattle.vm.specs.Guard.{guardedRun}
 use Rattle.guard.specs.Input.{Input}
@@ -36,13 +36,13 @@ allowed-requires c κs = search needs
 
 guarded-parts-requires : tie.Need-guarded-parts-requires
 guarded-parts-requires c κs =
-    let s = c .before .before .before .before .before .before .before .before .before .before .before .before .before .before .before .before .before .before .before .before .before .before in
+    let s = c .before .before .before .before .before .before .before .before .before .before .before .before .before .before .before .before .before .before in
     let a = s .before .before .before .before .before .before .before .args in
     load-fit (record { image = now (a .image); marks = now (a .marks); budget = a .budget .0; breaks = now (a .breakpoints) }) (s .switched-on .ensures) (s .before .before .image-words .ensures) (s .before .image-size .ensures)
 
 returns : tie.Need-returns
 returns c =
-    let s = c .before .before .before .before .before .before .before .before .before .before .before .before .before .before .before .before .before .before .before .before .before .before .before .before .before .before .before .before in
+    let s = c .before .before .before .before .before .before .before .before .before .before .before .before .before .before .before .before .before .before .before .before .before .before .before .before in
     let a = s .before .before .before .before .before .before .before .args in
     let i : Input = record { image = now (a .image); marks = now (a .marks); budget = a .budget .0; breaks = now (a .breakpoints) } in
     let new = s .switched-on .result in
@@ -50,8 +50,8 @@ returns c =
     let w = s .before .before .image-words .ensures in
     let n = s .before .image-size .ensures in
     let f = s .before .before .before .guard-refusal .ensures in
-    let m = c .before .before .before .before .before .before .before .before .before .before .before .before .before .before .before .before .before .mark-words in
-    let h = c .before .before .before .before .before .before .before .before .before .before .before .before .before .before .before .before .allowed .ensures in
+    let m = c .before .before .before .before .before .before .before .before .before .before .before .before .before .before .before .mark-words in
+    let h = c .before .before .before .before .before .before .before .before .before .before .before .before .before .before .allowed .ensures in
     let r = c .before .before .before .before .before .guarded-parts .ensures in (
       f,
       (

@@ -34,48 +34,48 @@ returns : tie.Need-returns
 unfolding stepOutcome
 returns c =
     let a = (c .before .before .before .before .before .before .before .before .before) .args in
-    let v = view (parts (a .core) (now (a .memory)) (now (a .registers)) (now (a .touched)) (now (a .texts)) (now (a .numbers)) (now (a .addresses)) (now (a .phases)) (now (a .lengths))) in
+    let v = view (parts (a .core) (now (a .memory)) (now (a .registers)) (now (a .touched)) (now (a .columns)) (now (a .numbers)) (now (a .lengths))) in
     (refuses _ _ (v .state .control .halted) _ (haltedReport v) (instructionReport v) v (stepInstruction v .machine) ((c .before) .step-refusal .ensures) (c .if1 .taken), λ _. refl, λ t. t)
 
 returns-2 : tie.Need-returns-2
 unfolding stepOutcome
 returns-2 c =
     let a = (c .before .before .before .before .before .before .before .before .before .before) .args in
-    let v = view (parts (a .core) (now (a .memory)) (now (a .registers)) (now (a .touched)) (now (a .texts)) (now (a .numbers)) (now (a .addresses)) (now (a .phases)) (now (a .lengths))) in
+    let v = view (parts (a .core) (now (a .memory)) (now (a .registers)) (now (a .touched)) (now (a .columns)) (now (a .numbers)) (now (a .lengths))) in
     (stays _ _ (v .state .control .halted) _ (haltedReport v) (instructionReport v) v (stepInstruction v .machine) ((c .before .before) .step-refusal .ensures) ((c .before) .if1 .left) (c .if2 .taken) (still-report v ((c .before .before .before .before .before .before .before) .disassemble .ensures) ((c .before .before .before .before .before .before) .halted-texts .ensures) ((c .before .before .before .before .before) .has-fault .ensures)), λ _. refl, λ t. t)
 
 instruction-parts-requires : tie.Need-instruction-parts-requires
 instruction-parts-requires c κs =
-    let s = (c .before .before .before .before .before .before .before .before .before .before .before .before .before .before .before .before .before .before) in
+    let s = (c .before .before .before .before .before .before .before .before .before .before .before .before .before .before .before .before) in
     let a = s .args in
-    let ok = served-ok (parts (a .core) (now (a .memory)) (now (a .registers)) (now (a .touched)) (now (a .texts)) (now (a .numbers)) (now (a .addresses)) (now (a .phases)) (now (a .lengths))) (a .size) _ ((c .before .before .before .before .before .before .before .before .before .before) .step-refusal .ensures) ((c .before .before .before .before .before .before .before .before .before) .if1 .left) in
-    (omega arith, (c .before .before .before .before .before .before .before .before) .if2 .left, fit (parts (a .core) (now (a .memory)) (now (a .registers)) (now (a .touched)) (now (a .texts)) (now (a .numbers)) (now (a .addresses)) (now (a .phases)) (now (a .lengths))) (a .size) ok (s .pre))
+    let ok = served-ok (parts (a .core) (now (a .memory)) (now (a .registers)) (now (a .touched)) (now (a .columns)) (now (a .numbers)) (now (a .lengths))) (a .size) _ ((c .before .before .before .before .before .before .before .before) .step-refusal .ensures) ((c .before .before .before .before .before .before .before) .if1 .left) in
+    (omega arith, (c .before .before .before .before .before .before) .if2 .left, fit (parts (a .core) (now (a .memory)) (now (a .registers)) (now (a .touched)) (now (a .columns)) (now (a .numbers)) (now (a .lengths))) (a .size) ok (s .pre))
 
 newest-texts-requires : tie.Need-newest-texts-requires
 newest-texts-requires c κs =
-    let s = (c .before .before .before .before .before .before .before .before .before .before .before .before .before .before .before .before .before .before .before .before .before .before .before) in
+    let s = (c .before .before .before .before .before .before .before .before .before .before .before .before .before .before .before .before .before .before .before .before .before) in
     let a = s .args in
     let t = (c .before .before .before .before) .instruction-parts in
     let q = t .ensures .1 .trace in
-    let ok = served-ok (parts (a .core) (now (a .memory)) (now (a .registers)) (now (a .touched)) (now (a .texts)) (now (a .numbers)) (now (a .addresses)) (now (a .phases)) (now (a .lengths))) (a .size) _ ((c .before .before .before .before .before .before .before .before .before .before .before .before .before .before .before) .step-refusal .ensures) ((c .before .before .before .before .before .before .before .before .before .before .before .before .before .before) .if1 .left) in
-    let f = fit (parts (a .core) (now (a .memory)) (now (a .registers)) (now (a .touched)) (now (a .texts)) (now (a .numbers)) (now (a .addresses)) (now (a .phases)) (now (a .lengths))) (a .size) ok (s .pre) in
-    let k = ticks-few 7 (t .result .ticks .0) (parts (a .core) (now (a .memory)) (now (a .registers)) (now (a .touched)) (now (a .texts)) (now (a .numbers)) (now (a .addresses)) (now (a .phases)) (now (a .lengths))) (t .result .done) (omega arith) f (t .ensures .1) (t .ensures .0) in
-    (k .0, k .1, q .count, q .texts, q .lengths)
+    let ok = served-ok (parts (a .core) (now (a .memory)) (now (a .registers)) (now (a .touched)) (now (a .columns)) (now (a .numbers)) (now (a .lengths))) (a .size) _ ((c .before .before .before .before .before .before .before .before .before .before .before .before .before) .step-refusal .ensures) ((c .before .before .before .before .before .before .before .before .before .before .before .before) .if1 .left) in
+    let f = fit (parts (a .core) (now (a .memory)) (now (a .registers)) (now (a .touched)) (now (a .columns)) (now (a .numbers)) (now (a .lengths))) (a .size) ok (s .pre) in
+    let k = ticks-few 7 (t .result .ticks .0) (parts (a .core) (now (a .memory)) (now (a .registers)) (now (a .touched)) (now (a .columns)) (now (a .numbers)) (now (a .lengths))) (t .result .done) (omega arith) f (t .ensures .1) (t .ensures .0) in
+    (k .0, k .1, q .count, q .columns, q .lengths)
 
 returns-3 : tie.Need-returns-3
 unfolding stepOutcome stepInstruction
 returns-3 c =
-    let s = (c .before .before .before .before .before .before .before .before .before .before .before .before .before .before .before .before .before .before .before .before .before .before .before .before) in
+    let s = (c .before .before .before .before .before .before .before .before .before .before .before .before .before .before .before .before .before .before .before .before .before .before) in
     let a = s .args in
-    let p = parts (a .core) (now (a .memory)) (now (a .registers)) (now (a .touched)) (now (a .texts)) (now (a .numbers)) (now (a .addresses)) (now (a .phases)) (now (a .lengths)) in
+    let p = parts (a .core) (now (a .memory)) (now (a .registers)) (now (a .touched)) (now (a .columns)) (now (a .numbers)) (now (a .lengths)) in
     let v = view p in
     let t = (c .before .before .before .before .before) .instruction-parts in
-    let r = (c .before .before .before .before .before .before .before .before .before .before .before .before .before .before .before .before) .step-refusal .ensures in
-    let z = (c .before .before .before .before .before .before .before .before .before .before .before .before .before .before .before) .if1 .left in
+    let r = (c .before .before .before .before .before .before .before .before .before .before .before .before .before .before) .step-refusal .ensures in
+    let z = (c .before .before .before .before .before .before .before .before .before .before .before .before .before) .if1 .left in
     let ok = served-ok p (a .size) _ r z in
     let f = fit p (a .size) ok (s .pre) in
     let x = c .newest-texts .ensures ∙ ap textsFrom (texts-made 7 (t .result .ticks .0) p (t .result .done) (omega arith) f (t .ensures .1) (t .ensures .0)) in
-    (moves _ _ (v .state .control .halted) _ (haltedReport v) (instructionReport v) v (stepInstruction v .machine) r z ((c .before .before .before .before .before .before .before .before .before .before .before .before .before .before) .if2 .left) (made-report v (t .ensures .0) (t .ensures .2) ((c .before .before .before .before .before .before .before .before .before .before .before .before .before .before .before .before .before .before .before .before .before) .disassemble .ensures) x) (ap (λ (y : Steps). y .machine) (t .ensures .0)), λ n. absurd (n z), λ k. lasts p _ (a .size) k (t .ensures .1))
+    (moves _ _ (v .state .control .halted) _ (haltedReport v) (instructionReport v) v (stepInstruction v .machine) r z ((c .before .before .before .before .before .before .before .before .before .before .before .before) .if2 .left) (made-report v (t .ensures .0) (t .ensures .2) ((c .before .before .before .before .before .before .before .before .before .before .before .before .before .before .before .before .before .before .before) .disassemble .ensures) x) (ap (λ (y : Steps). y .machine) (t .ensures .0)), λ n. absurd (n z), λ k. lasts p _ (a .size) k (t .ensures .1))
 
 pub step-parts-spec : {M : Type 1} → statement M
 step-parts-spec =

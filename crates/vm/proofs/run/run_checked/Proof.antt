@@ -14,27 +14,27 @@ returns : tie.Need-returns
 returns c =
     let a = (c .before .before .before .before .before) .args in
     let g = sym ((c .before) .parts-ok .ensures) ∙ not-true _ (c .if1 .taken) in
-    (run-refused (now (a .breakpoints)) (a .budget .0) (view (parts (a .core) (now (a .memory)) (now (a .registers)) (now (a .touched)) (now (a .texts)) (now (a .numbers)) (now (a .addresses)) (now (a .phases)) (now (a .lengths)))) _ g, λ _. refl, λ t. t)
+    (run-refused (now (a .breakpoints)) (a .budget .0) (view (parts (a .core) (now (a .memory)) (now (a .registers)) (now (a .touched)) (now (a .columns)) (now (a .numbers)) (now (a .lengths)))) _ g, λ _. refl, λ t. t)
 
 returns-2 : tie.Need-returns-2
 returns-2 c =
     let a = (c .before .before .before .before .before .before) .args in
     let g = sym ((c .before .before) .parts-ok .ensures) ∙ not-false _ ((c .before) .if1 .left) in
-    (run-halted (now (a .breakpoints)) (a .budget .0) (view (parts (a .core) (now (a .memory)) (now (a .registers)) (now (a .touched)) (now (a .texts)) (now (a .numbers)) (now (a .addresses)) (now (a .phases)) (now (a .lengths)))) _ g (c .if2 .taken), λ _. refl, λ t. t)
+    (run-halted (now (a .breakpoints)) (a .budget .0) (view (parts (a .core) (now (a .memory)) (now (a .registers)) (now (a .touched)) (now (a .columns)) (now (a .numbers)) (now (a .lengths)))) _ g (c .if2 .taken), λ _. refl, λ t. t)
 
 run-parts-requires : tie.Need-run-parts-requires
 run-parts-requires c κs =
-    let s = (c .before .before .before .before .before .before .before .before .before .before .before .before .before .before) in
+    let s = (c .before .before .before .before .before .before .before .before .before .before .before .before) in
     let a = s .args in
-    let g = sym ((c .before .before .before .before .before .before .before .before .before .before) .parts-ok .ensures) ∙ not-false _ ((c .before .before .before .before .before .before .before .before .before) .if1 .left) in
-    fit (parts (a .core) (now (a .memory)) (now (a .registers)) (now (a .touched)) (now (a .texts)) (now (a .numbers)) (now (a .addresses)) (now (a .phases)) (now (a .lengths))) (a .size) g (s .pre)
+    let g = sym ((c .before .before .before .before .before .before .before .before) .parts-ok .ensures) ∙ not-false _ ((c .before .before .before .before .before .before .before) .if1 .left) in
+    fit (parts (a .core) (now (a .memory)) (now (a .registers)) (now (a .touched)) (now (a .columns)) (now (a .numbers)) (now (a .lengths))) (a .size) g (s .pre)
 
 returns-3 : tie.Need-returns-3
 returns-3 c =
-    let a = (c .before .before .before .before .before .before .before .before .before .before .before .before .before .before .before) .args in
-    let g = sym ((c .before .before .before .before .before .before .before .before .before .before .before) .parts-ok .ensures) ∙ not-false _ ((c .before .before .before .before .before .before .before .before .before .before) .if1 .left) in
+    let a = (c .before .before .before .before .before .before .before .before .before .before .before .before .before) .args in
+    let g = sym ((c .before .before .before .before .before .before .before .before .before) .parts-ok .ensures) ∙ not-false _ ((c .before .before .before .before .before .before .before .before) .if1 .left) in
     let r = c .run-parts .ensures in
-    (r .0 ∙ run-served (now (a .breakpoints)) (a .budget .0) (view (parts (a .core) (now (a .memory)) (now (a .registers)) (now (a .touched)) (now (a .texts)) (now (a .numbers)) (now (a .addresses)) (now (a .phases)) (now (a .lengths)))) _ g ((c .before .before .before .before .before .before .before .before .before) .if2 .left), λ f. absurd (true-false (sym g ∙ f)), λ t. lasts (parts (a .core) (now (a .memory)) (now (a .registers)) (now (a .touched)) (now (a .texts)) (now (a .numbers)) (now (a .addresses)) (now (a .phases)) (now (a .lengths))) _ (a .size) t (r .1))
+    (r .0 ∙ run-served (now (a .breakpoints)) (a .budget .0) (view (parts (a .core) (now (a .memory)) (now (a .registers)) (now (a .touched)) (now (a .columns)) (now (a .numbers)) (now (a .lengths)))) _ g ((c .before .before .before .before .before .before .before) .if2 .left), λ f. absurd (true-false (sym g ∙ f)), λ t. lasts (parts (a .core) (now (a .memory)) (now (a .registers)) (now (a .touched)) (now (a .columns)) (now (a .numbers)) (now (a .lengths))) _ (a .size) t (r .1))
 
 pub run-checked-spec : {M : Type 1} → statement M
 run-checked-spec =

@@ -5,7 +5,7 @@ use mathlib.Core.Path.{sym, _∙_}
 use mathlib.Core.List.{[]}
 use denote.Ref.{now}
 use Rattle.isa.specs.Text.{text}
-use Rattle.trace.specs.Trace.{liveTexts}
+use Rattle.trace.specs.Trace.{liveTexts, textsIn}
 use Rattle.vm.proofs.Newest.{texts-length, newest-past, newest-at}
 use borrow.Author.Needs.{needs}
 use Rattle.vm.proofs.texts.newest_text.Statement.{statement}
@@ -21,7 +21,7 @@ returns : tie.Need-returns
 returns c =
     let s = c .before .before .before in
     let a = s .args in
-    c .from-bytes .ensures ∙ sym (newest-past (a .n) (a .i) (liveTexts (a .ring .start) (a .ring .len) (now (a .texts)) (now (a .lengths))) (text []) (omega (arith, s .pre .0, texts-length (a .ring .start) (a .ring .len) (now (a .texts)) (now (a .lengths)) (s .pre .1))) (c .before .before .if1 .taken))
+    c .from-bytes .ensures ∙ sym (newest-past (a .n) (a .i) (liveTexts (a .ring .start) (a .ring .len) (textsIn (now (a .columns))) (now (a .lengths))) (text []) (omega (arith, s .pre .0, texts-length (a .ring .start) (a .ring .len) (textsIn (now (a .columns))) (now (a .lengths)) (s .pre .1))) (c .before .before .if1 .taken))
 
 add-first : tie.Need-add-first
 add-first c = search needs
@@ -39,7 +39,7 @@ returns-2 : tie.Need-returns-2
 returns-2 c =
     let s = c .before .before .before .before in
     let a = s .args in
-    c .text-at .ensures ∙ newest-at (a .ring .start) (a .ring .len) (a .n) (a .i) (now (a .texts)) (now (a .lengths)) (text []) (s .pre .0) (s .pre .1) (c .before .before .before .if1 .left)
+    c .text-at .ensures ∙ newest-at (a .ring .start) (a .ring .len) (a .n) (a .i) (textsIn (now (a .columns))) (now (a .lengths)) (text []) (s .pre .0) (s .pre .1) (c .before .before .before .if1 .left)
 
 pub newest-text-spec : {M : Type 1} → statement M
 newest-text-spec =

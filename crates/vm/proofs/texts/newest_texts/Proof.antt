@@ -4,7 +4,7 @@ use native.Mathlib.Omega.{arith}
 use mathlib.Core.Path.{sym}
 use mathlib.Core.List.{[], _∷_}
 use denote.Ref.{now}
-use Rattle.trace.specs.Trace.{liveTexts}
+use Rattle.trace.specs.Trace.{liveTexts, textsIn}
 use Rattle.vm.proofs.Newest.{texts-length, length-newest}
 use borrow.Author.Needs.{needs}
 use Rattle.vm.proofs.texts.newest_texts.Statement.{statement}
@@ -44,8 +44,8 @@ returns c =
     let p₁ = p₂ .before in
     let s = p₁ .before in
     let a = s .args in
-    let t = liveTexts (a .ring .start) (a .ring .len) (now (a .texts)) (now (a .lengths)) in
-    let e = sym (length-newest (a .n) t (omega (arith, s .pre .1, texts-length (a .ring .start) (a .ring .len) (now (a .texts)) (now (a .lengths)) (s .pre .2)))) in
+    let t = liveTexts (a .ring .start) (a .ring .len) (textsIn (now (a .columns))) (now (a .lengths)) in
+    let e = sym (length-newest (a .n) t (omega (arith, s .pre .1, texts-length (a .ring .start) (a .ring .len) (textsIn (now (a .columns))) (now (a .lengths)) (s .pre .2)))) in
     let q₀ = p₁ .newest-text .ensures in
     let q₁ = p₂ .newest-text2 .ensures in
     let q₂ = p₃ .newest-text3 .ensures in

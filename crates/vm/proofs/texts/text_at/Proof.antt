@@ -6,15 +6,17 @@ use mathlib.Core.Path.{_≡_, refl, sym, _∙_}
 use denote.Ref.{now}
 use lib.ListN.{length, getD, take, drop, length-set}
 use lib.Seq.{take-all}
+use Rattle.trace.specs.Trace.{columnsLength, textsIn}
+use Rattle.trace.proofs.Rings.{text-at}
 use Rattle.vm.proofs.Newest.{copy-next}
 use Rattle.vm.proofs.texts.text_at.Statement.{statement}
 use Rattle.vm.proofs.texts.text_at.Tie as tie
 
 abbrev Inv-loop : tie.InvT-loop
-Inv-loop at texts lengths bytes₀ i₀ bytes i = (take i bytes ≡ take i (drop (at * 32) texts)) × (i ≤ 32) × (length bytes ≡ 32) × (length texts ≡ 16384) × (at < 512)
+Inv-loop at columns lengths bytes₀ i₀ bytes i = (take i bytes ≡ take i (drop (at * 32) columns)) × (i ≤ 32) × (length bytes ≡ 32) × (length columns ≡ columnsLength) × (at < 512)
 
 abbrev μ-loop : tie.MeasureT-loop
-μ-loop at texts lengths bytes₀ i₀ bytes i = 32 - i
+μ-loop at columns lengths bytes₀ i₀ bytes i = 32 - i
 
 loop-holds : tie.Need-loop-holds Inv-loop μ-loop
 loop-holds c = (refl, omega arith, refl, c .pre .1, c .pre .0)
@@ -41,7 +43,7 @@ loop-again : tie.Need-loop-again Inv-loop μ-loop
 loop-again c =
     let l = c .before .before .loop in
     let a = c .before .before .before .args in
-    (copy-next (l .bytes) (now (a .texts)) (a .at * 32) (l .i) (omega arith) (omega arith) (l .inv .0), omega arith, simp length-set (l .inv .2), l .inv .3, l .inv .4)
+    (copy-next (l .bytes) (now (a .columns)) (a .at * 32) (l .i) (omega arith) (omega arith) (l .inv .0), omega arith, simp length-set (l .inv .2), l .inv .3, l .inv .4)
 
 element-copy-out-t17 : tie.Need-element-copy-out-t17 Inv-loop μ-loop
 element-copy-out-t17 c = omega arith
@@ -51,7 +53,7 @@ returns c =
     let l = c .before .before .loop in
     let a = c .before .before .before .args in
     let e : l .i ≡ 32 = omega arith in
-    let b : l .bytes ≡ take 32 (drop (a .at * 32) (now (a .texts))) = sym (take-all 32 (l .bytes) (omega arith)) ∙ rw e at (l .inv .0) in
+    let b : l .bytes ≡ take 32 (drop (a .at * 32) (textsIn (now (a .columns)))) = sym (take-all 32 (l .bytes) (omega arith)) ∙ rw e at (l .inv .0) ∙ sym (text-at (now (a .columns)) (a .at) (omega arith) (omega arith)) in
     λ j. record { bytes = b j; len = getD (now (a .lengths)) (a .at) 0 }
 
 pub text-at-spec : {M : Type 1} → statement M

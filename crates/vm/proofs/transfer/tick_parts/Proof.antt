@@ -52,24 +52,24 @@ is-fault-requires c κs = search needs
 
 returns : tie.Need-returns
 returns c =
-    let s = (c .before .before .before .before .before .before .before .before .before .before .before .before .before .before .before .before .before .before .before .before .before .before .before) in let a = s .args in
-    let o = (c .before .before .before .before .before .before .before .before .before .before .before .before .before .before .before .before .before .before .before) .read-operands in
-    let x = (c .before .before .before .before .before .before .before .before .before .before .before .before .before .before .before .before .before) .tick-text in
-    let h = (c .before .before .before .before .before .before .before .before .before .before .before .before .before .before .before .before) .phase-number in
-    let t = (c .before .before .before .before .before .before .before .before .before .before .before .before .before .before .before) .tick-of in
-    let k = (c .before .before .before .before .before .before .before .before .before .before .before .before .before) .count-tick in
-    let w = (c .before .before .before .before .before .before .before .before .before .before .before) .set-register in
-    let m = (c .before .before .before .before .before .before .before .before .before) .set-word in
-    let u = (c .before .before .before .before .before .before .before) .touch in
+    let s = (c .before .before .before .before .before .before .before .before .before .before .before .before .before .before .before .before .before .before .before .before .before) in let a = s .args in
+    let o = (c .before .before .before .before .before .before .before .before .before .before .before .before .before .before .before .before .before) .read-operands in
+    let x = (c .before .before .before .before .before .before .before .before .before .before .before .before .before .before .before) .tick-text in
+    let h = (c .before .before .before .before .before .before .before .before .before .before .before .before .before .before) .phase-number in
+    let t = (c .before .before .before .before .before .before .before .before .before .before .before .before .before) .tick-of in
+    let k = (c .before .before .before .before .before .before .before .before .before .before .before) .count-tick in
+    let w = (c .before .before .before .before .before .before .before .before .before) .set-register in
+    let m = (c .before .before .before .before .before .before .before) .set-word in
+    let u = (c .before .before .before .before .before) .touch in
     let q = (c .before) .push-trace in
-    let v = view (parts (a .s) (now (a .memory)) (now (a .registers)) (now (a .touched)) (now (a .texts)) (now (a .numbers)) (now (a .addresses)) (now (a .phases)) (now (a .lengths))) in
+    let v = view (parts (a .s) (now (a .memory)) (now (a .registers)) (now (a .touched)) (now (a .columns)) (now (a .numbers)) (now (a .lengths))) in
     let n = tick-next (a .s .state) (o .result) (s .pre .1 .control) (s .pre .0) in
     let e = ap (λ (z : Tick). z .state .control) (t .ensures) in
     let b = sends (a .s .state) (o .result) (mar s) (a .s .state .control .tick) (t .ensures) in
     let g = eqb (o .result .x) (o .result .zero) in
     let f = a .s .state .control in
     let y = touched-live (t .result .bus) (placesOf (a .s .«touched_len») (now (a .touched))) (u .ensures) b (s .pre .1 .touched) in
-    let z = pushed-live (record { number = k .result .«micro_operations»; address = t .result .state .control .«instruction_address»; phase = h .result; text = x .result }) (arraysOf (record { start = a .s .«trace_start»; len = a .s .«trace_len» }) (now (a .texts)) (now (a .numbers)) (now (a .addresses)) (now (a .phases)) (now (a .lengths))) (q .ensures) (text-field (f .tick) g (f .ir) (x .ensures)) (short-text (f .tick) g (f .ir) (x .ensures)) (s .pre .1 .trace) in (
+    let z = pushed-live (record { number = k .result .«micro_operations»; address = t .result .state .control .«instruction_address»; phase = h .result; text = x .result }) (arraysOf (record { start = a .s .«trace_start»; len = a .s .«trace_len» }) (now (a .columns)) (now (a .numbers)) (now (a .lengths))) (q .ensures) (text-field (f .tick) g (f .ir) (x .ensures)) (short-text (f .tick) g (f .ir) (x .ensures)) (s .pre .1 .trace) in (
       is-tick v (o .result) (x .result) (h .result) (t .result) (o .ensures) (t .ensures) (k .result) (x .ensures) (h .ensures) (k .ensures) (m .ensures) (w .ensures) (z .0) (y .0),
       is-done v (o .result) (x .result) (h .result) (t .result) (o .ensures) (t .ensures) (c .is-fault .ensures),
       record { control = ap lawful e ∙ n .machine; touched = y .1; trace = z .1 },

@@ -10,8 +10,8 @@ use Rattle.isa.specs.declared.opcode.Opcode.the-variants.{LoadImmediate, LoadRe
 use Rattle.isa.specs.declared.opcode.Decoded.{Decoded}
 use Rattle.isa.specs.declared.opcode.Decoded.the-variants.{Known, Unknown}
 use Rattle.isa.specs.Word.{decodeWord, digitX, digitY, digitZ, byteYZ}
-use Rattle.guard.specs.declared.marks.Moved.{Moved}
-use Rattle.guard.specs.Marks.{Marks, joinedYZ, executedMarks, instructionMarks, moves}
+use Rattle.marks.specs.declared.Moved.{Moved}
+use Rattle.marks.specs.Marks.{Marks, joinedYZ, executedMarks, instructionMarks, moves}
 
 -- a register and the word at yz get a mark, and MDR
 abbrev markedBy : ℕ → Moved → List ℕ → List ℕ → Marks

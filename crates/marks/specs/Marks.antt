@@ -9,7 +9,7 @@ use Rattle.isa.specs.declared.opcode.Opcode.the-variants.{LoadImmediate, LoadRe
 use Rattle.isa.specs.declared.opcode.Decoded.{Decoded}
 use Rattle.isa.specs.declared.opcode.Decoded.the-variants.{Known, Unknown}
 use Rattle.isa.specs.Word.{decodeWord, digitX, digitY, digitZ, byteYZ}
-use Rattle.guard.specs.declared.marks.Moved.{Moved}
+use Rattle.marks.specs.declared.Moved.{Moved}
 
 -- a mark of 0 is open
 pub record Marks : Type 0 where

@@ -5,10 +5,10 @@ use mathlib.Core.Path.{sym}
 use denote.Ref.{now}
 use Rattle.isa.specs.Word.{decodeWord, digitX, digitY}
 use Rattle.isa.proofs.Words.{read-off}
-use Rattle.guard.proofs.Moves.{marks-moved, pick-below}
+use Rattle.marks.proofs.Moves.{marks-moved, pick-below}
 use borrow.Author.Needs.{needs}
-use Rattle.guard.proofs.marks.mark_instruction.Statement.{statement}
-use Rattle.guard.proofs.marks.mark_instruction.Tie as tie
+use Rattle.marks.proofs.mark_instruction.Statement.{statement}
+use Rattle.marks.proofs.mark_instruction.Tie as tie
 
 cast-x : tie.Need-cast-x
 cast-x c = search needs

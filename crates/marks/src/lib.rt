@@ -1,7 +1,7 @@
 // Marks: which words and registers are hidden, and how an instruction moves that. A mark of 0 is open.
 ghost use mathlib.Core.Path.{_≡_};
 ghost use mathlib.Core.Bool.{cond};
-ghost use Rattle.guard.specs.Marks.{joined, moves, instructionMarks};
+ghost use Rattle.marks.specs.Marks.{joined, moves, instructionMarks};
 use isa::Decoded;
 use isa::Instruction;
 use isa::Opcode;

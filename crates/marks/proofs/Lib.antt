@@ -1,0 +1,2 @@
+-- `Moves` has the marks of an instruction in one form.
+pub mod Moves
