@@ -2,17 +2,18 @@
 ghost use mathlib.Core.Path.{_≡_};
 ghost use Prim.Native.Nat.{_-_};
 ghost use lib.Dec.{eqb};
-ghost use Rattle.tick.specs.Count.{overCounted};
+ghost use Rattle.control.specs.Count.{overCounted};
 ghost use Rattle.marks.specs.Marks.{marked};
 ghost use Rattle.guard.specs.Stops.{reached, haltStop, verdictIf, runVerdictOf, stopNumber, haltedStop, isJump, hiddenJump, guardIf, verdictOf};
+use control::Counters;
+use control::Fault;
+use control::State;
+use control::is_over_counted;
 use encoding::contains;
 use isa::Decoded;
 use isa::Instruction;
 use isa::Opcode;
-use tick::Counters;
-use tick::Fault;
-use tick::State;
-use tick::is_over_counted;
+use isa::REGISTER_COUNT;
 
 // Why the machine stopped running. `Refused` has the refusal's number, and stands for no stop.
 pub enum RunStop {
@@ -140,7 +141,7 @@ fn is_jump(decoded: Decoded) -> bool
 }
 
 // Whether the word is a jump that would test a hidden register; one on R0 tests none.
-pub fn hidden_jump(word: u16, registers: &[u8; 16]) -> bool
+pub fn hidden_jump(word: u16, registers: &[u8; REGISTER_COUNT]) -> bool
     ensures { λ r. ⌜ r ≡ hiddenJump marked word (now (registers .entry)) ⌝ }
 {
     let i = Instruction::from_word(word);
@@ -173,7 +174,7 @@ pub fn judge(
     budget: u64,
     word: u16,
     mark: u8,
-    registers: &[u8; 16],
+    registers: &[u8; REGISTER_COUNT],
 ) -> Verdict
     ensures { λ r. ⌜ verdictOf r ≡ guardIf (state .control .halted) (reached (now (breakpoints .entry)) begun (state .control .pc)) (eqb (budget - begun) 0) (marked mark) (hiddenJump marked word (now (registers .entry))) (state .fault) ⌝ }
 {

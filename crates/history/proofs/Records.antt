@@ -11,10 +11,10 @@ use lib.Seq.{drop-append-add, getD-drop}
 use Rattle.encoding.specs.Bytes.{over, bigEndian, bigEndians, number, numbers}
 use Rattle.encoding.proofs.Written.{Sized, length-joined, overs-eq}
 use Rattle.encoding.proofs.Numbers.{length-bigEndian, length-bigEndians, length-numbers, number-below, number-bigEndian, numbers-bigEndians}
-use Rattle.tick.specs.Lawful.{lawful}
-use Rattle.tick.specs.declared.control.Control.{Control}
-use Rattle.tick.specs.declared.control.Fault.{Fault}
-use Rattle.tick.specs.declared.control.Fault.the-variants.{Healthy, UnknownInstruction, StepBudgetExhausted}
+use Rattle.control.specs.Lawful.{lawful}
+use Rattle.control.specs.declared.control.Control.{Control}
+use Rattle.control.specs.declared.control.Fault.{Fault}
+use Rattle.control.specs.declared.control.Fault.the-variants.{Healthy, UnknownInstruction, StepBudgetExhausted}
 use Rattle.history.specs.Record.{recordLength, codeOf, bit, frontBytes, stateBytes, countBytes, memoryBytes, recordBytes, controlIn, faultOf, faultIn, snapshotIn, isRecord, found, recordIn, Fits, isGood}
 use Rattle.history.specs.declared.snapshot.Snapshot.{Snapshot}
 use Rattle.history.proofs.Parts.{number-cut, numbers-cut}

@@ -5,6 +5,7 @@ use mathlib.Core.Bool.{cond}
 use mathlib.Core.List.{List, [], _∷_, _++_}
 use lib.Dec.{eqb}
 use lib.ListN.{length, replicate}
+use Rattle.isa.specs.Sizes.{memoryWords}
 use Rattle.history.specs.declared.differing.Differences.{Differences}
 
 -- the addresses at which the two differ, those of their first words being i
@@ -18,7 +19,7 @@ unfoldable pub padded : ℕ → List ℕ → List ℕ
 padded n l = l ++ replicate (n - length l) 0
 
 unfoldable pub differencesOf : List ℕ → List ℕ → Differences
-differencesOf image memory = record { addresses = padded 256 (differ 0 image memory); count = length (differ 0 image memory) }
+differencesOf image memory = record { addresses = padded memoryWords (differ 0 image memory); count = length (differ 0 image memory) }
 
 -- each is at least `low` and below `high`, and larger than the one before it
 abbrev pub Ascending : ℕ → ℕ → List ℕ → Type 0

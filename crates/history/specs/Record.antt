@@ -6,11 +6,12 @@ use mathlib.Core.Bool.{Bool, true, false, cond, _&&_}
 use mathlib.Core.List.{List, _++_}
 use lib.Dec.{eqb, leb}
 use lib.ListN.{length, drop, getD, replicate}
+use Rattle.isa.specs.Sizes.{memoryWords, registerCount}
 use Rattle.encoding.specs.Bytes.{bigEndian, bigEndians, number, numbers}
-use Rattle.tick.specs.Lawful.{lawful}
-use Rattle.tick.specs.declared.control.Control.{Control}
-use Rattle.tick.specs.declared.control.Fault.{Fault}
-use Rattle.tick.specs.declared.control.Fault.the-variants.{Healthy, UnknownInstruction, StepBudgetExhausted}
+use Rattle.control.specs.Lawful.{lawful}
+use Rattle.control.specs.declared.control.Control.{Control}
+use Rattle.control.specs.declared.control.Fault.{Fault}
+use Rattle.control.specs.declared.control.Fault.the-variants.{Healthy, UnknownInstruction, StepBudgetExhausted}
 use Rattle.history.specs.declared.layout.FaultCode.{FaultCode}
 use Rattle.history.specs.declared.snapshot.Newest.{Newest}
 use Rattle.history.specs.declared.snapshot.Snapshot.{Snapshot}
@@ -81,8 +82,8 @@ faultIn l = faultOf (number 1 (drop 42 l)) (number 2 (drop 43 l)) (number 1 (dro
 -- the last two bytes are not read
 unfoldable pub snapshotIn : List ℕ → Snapshot
 snapshotIn l = record {
-  registers = numbers 2 16 (drop 3 l);
-  memory = numbers 2 256 (drop 62 l);
+  registers = numbers 2 registerCount (drop 3 l);
+  memory = numbers 2 memoryWords (drop 62 l);
   control = controlIn l;
   fault = faultIn l;
   instructions = number 8 (drop 46 l);
@@ -100,8 +101,8 @@ found s = record { good = true; snapshot = s }
 
 unfoldable pub blank : Snapshot
 blank = record {
-  registers = replicate 16 0;
-  memory = replicate 256 0;
+  registers = replicate registerCount 0;
+  memory = replicate memoryWords 0;
   control = record { ir = 0; mdr = 0; pc = 0; mar = 0; «instruction_address» = 0; tick = 0; «execute_ticks» = 0; halted = false };
   fault = Healthy;
   instructions = 0;
@@ -121,7 +122,7 @@ recordIn l = cond (isRecord l) (found (snapshotIn l)) noRecord
 pub record Fits (s : Snapshot) : Type 0 where
   pub pc : s .control .pc < 256
   pub ir : s .control .ir < 65536
-  pub sixteen : length (s .registers) ≡ 16
+  pub sixteen : length (s .registers) ≡ registerCount
   pub registers : (i : ℕ) → getD (s .registers) i 0 < 65536
   pub mar : s .control .mar < 256
   pub mdr : s .control .mdr < 65536
@@ -132,7 +133,7 @@ pub record Fits (s : Snapshot) : Type 0 where
   pub fault-address : codeOf (s .fault) .address < 256
   pub instructions : s .instructions < 2 ^ 64
   pub operations : s .«micro_operations» < 2 ^ 64
-  pub many : length (s .memory) ≡ 256
+  pub many : length (s .memory) ≡ memoryWords
   pub memory : (i : ℕ) → getD (s .memory) i 0 < 65536
 
 -- and `undo` takes it: its tick is not refused 8

@@ -3,8 +3,8 @@
 use Prim.Native.Nat.{ℕ}
 use mathlib.Core.Bool.{Bool, cond}
 use lib.Dec.{eqb, ltb}
-use Rattle.tick.specs.declared.control.State.{State}
-use Rattle.tick.specs.declared.counters.Counters.{Counters}
+use Rattle.control.specs.declared.control.State.{State}
+use Rattle.control.specs.declared.counters.Counters.{Counters}
 use Rattle.history.specs.declared.snapshot.Snapshot.{Snapshot}
 use Rattle.history.specs.Record.{recordLength}
 use Rattle.history.specs.Store.{limitOf}

@@ -1,20 +1,21 @@
 // The addresses where memory and image differ: `touched` after an undo.
 ghost use mathlib.Core.Path.{_≡_};
 ghost use Rattle.history.specs.Differences.{differencesOf};
+use isa::MEMORY_WORDS;
 
 pub struct Differences {
-    pub addresses: [u8; 256],
+    pub addresses: [u8; MEMORY_WORDS],
     pub count: usize,
 }
 
 // The addresses, ascending, and zeros behind them.
-pub fn differing_addresses(image: [u16; 256], memory: [u16; 256]) -> Differences
+pub fn differing_addresses(image: [u16; MEMORY_WORDS], memory: [u16; MEMORY_WORDS]) -> Differences
     ensures { λ r. ⌜ r ≡ differencesOf image memory ⌝ }
 {
-    let mut addresses = [0u8; 256];
+    let mut addresses = [0u8; MEMORY_WORDS];
     let mut count: usize = 0;
     let mut i: usize = 0;
-    while i < 256 {
+    while i < MEMORY_WORDS {
         if image[i] != memory[i] {
             addresses[count] = i as u8;
             count += 1;

@@ -7,13 +7,15 @@ ghost use Rattle.history.specs.Record.{recordLength, codeOf, bit, frontB
 use crate::snapshot::Newest;
 use crate::snapshot::Snapshot;
 use crate::snapshot::no_record;
+use control::Control;
+use control::Fault;
+use control::is_lawful;
 use encoding::get_number;
 use encoding::get_words;
 use encoding::put_number;
 use encoding::put_words;
-use tick::Control;
-use tick::Fault;
-use tick::is_lawful;
+use isa::MEMORY_WORDS;
+use isa::REGISTER_COUNT;
 
 pub(crate) const RECORD_LENGTH: usize = 576;
 
@@ -192,9 +194,9 @@ fn snapshot_in(part: &[u8]) -> Snapshot
     requires { ⌜ recordLength ≤ length (now part) ⌝ }
     ensures { λ r. ⌜ r ≡ snapshotIn (now (part .entry)) ⌝ }
 {
-    let mut registers = [0u16; 16];
+    let mut registers = [0u16; REGISTER_COUNT];
     get_words(part, 3, &mut registers);
-    let mut memory = [0u16; 256];
+    let mut memory = [0u16; MEMORY_WORDS];
     get_words(part, 62, &mut memory);
     let control = control_in(part);
     let fault = fault_in(part);

@@ -4,8 +4,8 @@ ghost use Prim.Native.Nat.{_-_};
 ghost use Rattle.history.specs.Restore.{storeRefusalIf, undoRefusalIf, restoredState, restoredCounters};
 use crate::snapshot::Snapshot;
 use crate::store::history_limit;
-use tick::Counters;
-use tick::State;
+use control::Counters;
+use control::State;
 
 // 7 for a store that holds no record; 8 where it is no machine, or has more records than the store holds.
 pub fn store_refusal(good: bool, len: usize, count: usize) -> u8

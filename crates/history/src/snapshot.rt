@@ -1,14 +1,16 @@
 // What a record holds.
 ghost use mathlib.Core.Path.{_≡_};
 ghost use Rattle.history.specs.Record.{noRecord};
-use tick::Control;
-use tick::Fault;
+use control::Control;
+use control::Fault;
+use isa::MEMORY_WORDS;
+use isa::REGISTER_COUNT;
 
 // What `push_history` keeps and `undo` gives back. The arrays stand first, where a proof's search for their
 // lengths looks first.
 pub struct Snapshot {
-    pub registers: [u16; 16],
-    pub memory: [u16; 256],
+    pub registers: [u16; REGISTER_COUNT],
+    pub memory: [u16; MEMORY_WORDS],
     pub control: Control,
     pub fault: Fault,
     pub instructions: u64,
@@ -24,8 +26,8 @@ pub struct Newest {
 pub(crate) fn no_record() -> Newest
     ensures { λ r. ⌜ r ≡ noRecord ⌝ }
 {
-    let registers = [0u16; 16];
-    let memory = [0u16; 256];
+    let registers = [0u16; REGISTER_COUNT];
+    let memory = [0u16; MEMORY_WORDS];
     let control = Control {
         ir: 0,
         mdr: 0,

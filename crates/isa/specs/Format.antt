@@ -7,6 +7,7 @@ use mathlib.Core.List.{List, [], _∷_, _++_, map}
 use lib.Dec.{eqb, ltb}
 use lib.IntN.{ℤ, pos, negsuc}
 use lib.ListN.{length, getD, drop, replicate}
+use Rattle.isa.specs.Sizes.{textWidth}
 use Rattle.isa.specs.Text.{ascii}
 use Rattle.isa.specs.Word.{digitW, digitX, digitY, digitZ}
 use Rattle.isa.specs.declared.digits.ByteOption.{ByteOption}
@@ -43,11 +44,11 @@ hexLength w = cond (ltb w 16) 1 (cond (ltb w 256) 2 (cond (ltb w 4096) 3 4))
 
 -- how many digits `format_hex` writes: those asked for, and never fewer than the word takes. A text holds 32
 abbrev pub hexWidth : ℕ → ℕ → ℕ
-hexWidth w digits = max (min digits 32) (hexLength w)
+hexWidth w digits = max (min digits textWidth) (hexLength w)
 
 -- format!("{:0digits$X}"): the last digits of the word with zeros in front
 unfoldable pub formatHex : ℕ → ℕ → List ℕ
-formatHex w digits = drop (32 - hexWidth w digits) (replicate 28 (code "0") ++ hex4 w)
+formatHex w digits = drop (textWidth - hexWidth w digits) (replicate 28 (code "0") ++ hex4 w)
 
 -- the name of a register: its low digit counts
 abbrev pub registerName : ℕ → List ℕ

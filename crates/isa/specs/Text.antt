@@ -7,6 +7,7 @@ use mathlib.Core.Bool.{cond}
 use mathlib.Core.List.{List, [], _∷_, _++_}
 use lib.Dec.{eqb}
 use lib.ListN.{length, take, replicate}
+use Rattle.isa.specs.Sizes.{textWidth}
 use Rattle.isa.specs.declared.text.Text.{Text}
 use Rattle.isa.specs.declared.text.LongText.{LongText}
 
@@ -35,7 +36,7 @@ trimmed (x ∷ xs) = unlessSpace x (trimmed xs)
 
 -- the struct that holds xs, zeros past it
 unfoldable pub text : List ℕ → Text
-text xs = record { bytes = padded 32 xs; len = length xs }
+text xs = record { bytes = padded textWidth xs; len = length xs }
 
 -- the same for the longer fixed texts
 unfoldable pub longText : List ℕ → LongText

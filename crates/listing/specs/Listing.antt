@@ -7,6 +7,7 @@ use mathlib.Core.Bool.{Bool, true, false, cond}
 use mathlib.Core.List.{List, [], _∷_, _++_}
 use lib.Dec.{eqb, ltb}
 use lib.ListN.{length, getD}
+use Rattle.isa.specs.Sizes.{memoryWords}
 use Rattle.isa.specs.declared.opcode.Opcode.the-variants.{LoadImmediate, LoadRegister, LoadMemory, StoreMemory, Add, Negate, ShiftRight, ShiftLeft, And, Or, Xor, Jump, Halt}
 use Rattle.isa.specs.declared.opcode.Decoded.{Decoded}
 use Rattle.isa.specs.declared.opcode.Decoded.the-variants.{Known, Unknown}
@@ -139,7 +140,7 @@ unlessRefused (suc n) out served = outcome (Refused (suc n)) out
 
 -- refused 1: over 256 words; 5: the buffer is shorter than the listing (01, section 1)
 abbrev pub listingRefusal : ℕ → ℕ → ℕ
-listingRefusal n room = cond (ltb 256 n) 1 (cond (ltb room (listingLength n)) 5 0)
+listingRefusal n room = cond (ltb memoryWords n) 1 (cond (ltb room (listingLength n)) 5 0)
 
 -- the listing is written from the start of the buffer, and what stands behind it is kept
 unfoldable pub listingOutcome : List ℕ → List ℕ → Outcome

@@ -12,6 +12,7 @@ use encoding::get_words;
 use encoding::put_bytes;
 use isa::Decoded;
 use isa::Instruction;
+use isa::MEMORY_WORDS;
 use isa::Opcode;
 use isa::Text;
 use isa::format;
@@ -41,7 +42,7 @@ fn is_reference(decoded: Decoded) -> bool
 }
 
 // Notes the address that a word refers to.
-fn note(table: &mut [bool; 256], word: u16)
+fn note(table: &mut [bool; MEMORY_WORDS], word: u16)
     requires { ⌜ length (now table) ≡ 256 ⌝ }
     ensures { λ _. ⌜ now (table .exit) ≡ cond (refers (decodeWord word)) (set (now (table .entry)) (byteYZ word) true) (now (table .entry)) ⌝ }
 {
@@ -53,10 +54,10 @@ fn note(table: &mut [bool; 256], word: u16)
 }
 
 // For each address whether it has a label: one pass over the words, not one for each line.
-fn labels(words: &[u16]) -> [bool; 256]
+fn labels(words: &[u16]) -> [bool; MEMORY_WORDS]
     ensures { λ r. ⌜ ((a : ℕ) → a < 256 → getD r a false ≡ labelled (now (words .entry)) a) ⌝ }
 {
-    let mut table = [false; 256];
+    let mut table = [false; MEMORY_WORDS];
     table[0] = true;
     let mut i = 0;
     while i < words.len() {
@@ -258,7 +259,7 @@ pub fn disassemble_image(words: &[u16], out: &mut [u8]) -> Listed
     ensures { λ r. ⌜ outcome r (now (out .exit)) ≡ listingOutcome (now (words .entry)) (now (out .entry)) ⌝ }
 {
     let n = words.len();
-    if 256 < n {
+    if MEMORY_WORDS < n {
         return Listed::Refused(1);
     }
     let size = listing_length(n);
@@ -275,7 +276,7 @@ pub fn list_bytes(image: &[u8], out: &mut [u8]) -> Listed
     ensures { λ r. ⌜ outcome r (now (out .exit)) ≡ bytesOutcome (now (image .entry)) (now (out .entry)) ⌝ }
 {
     let n = image.len() / 2;
-    if 256 < n {
+    if MEMORY_WORDS < n {
         return Listed::Refused(1);
     }
     if out.len() < listing_length(n) {
@@ -284,7 +285,7 @@ pub fn list_bytes(image: &[u8], out: &mut [u8]) -> Listed
     if image.len() % 2 != 0 {
         return Listed::Refused(6);
     }
-    let mut words = [0u16; 256];
+    let mut words = [0u16; MEMORY_WORDS];
     get_words(image, 0, &mut words[..n]);
     disassemble_image(&words[..n], out)
 }

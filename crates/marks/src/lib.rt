@@ -4,11 +4,13 @@ ghost use mathlib.Core.Bool.{cond};
 ghost use Rattle.marks.specs.Marks.{joined, moves, instructionMarks};
 use isa::Decoded;
 use isa::Instruction;
+use isa::MEMORY_WORDS;
 use isa::Opcode;
+use isa::REGISTER_COUNT;
 
 pub struct Marks {
-    pub memory: [u8; 256],
-    pub registers: [u8; 16],
+    pub memory: [u8; MEMORY_WORDS],
+    pub registers: [u8; REGISTER_COUNT],
     pub mdr: u8,
 }
 
@@ -54,7 +56,11 @@ fn pick(second: bool, a: usize, b: usize) -> usize
 }
 
 // What a whole instruction does to the marks; it answers MDR's.
-pub fn mark_instruction(word: u16, memory: &mut [u8; 256], registers: &mut [u8; 16]) -> u8
+pub fn mark_instruction(
+    word: u16,
+    memory: &mut [u8; MEMORY_WORDS],
+    registers: &mut [u8; REGISTER_COUNT],
+) -> u8
     ensures { λ r. ⌜ record { memory = now (memory .exit); registers = now (registers .exit); mdr = r } ≡ instructionMarks word (record { memory = now (memory .entry); registers = now (registers .entry); mdr = 0 }) ⌝ }
 {
     let x = (word / 256 % 16) as usize;

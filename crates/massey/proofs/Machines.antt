@@ -11,7 +11,7 @@ use lib.ListN.{length, take}
 use lib.Seq.{length-take-le}
 use Rattle.encoding.specs.Bytes.{numbers, readWords}
 use Rattle.encoding.proofs.Numbers.{length-numbers}
-use Rattle.tick.specs.Count.{overCounted}
+use Rattle.control.specs.Count.{overCounted}
 use Rattle.vm.specs.declared.machine.Machine.{Machine as Code}
 use Rattle.vm.specs.Machine.{Machine, microStep}
 use Rattle.vm.specs.Instruction.{stepInstruction}

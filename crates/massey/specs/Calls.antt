@@ -6,6 +6,7 @@ use mathlib.Core.List.{List}
 use lib.Dec.{ltb}
 use lib.IntN.{ℤ, pos, negℤ}
 use lib.ListN.{length}
+use Rattle.isa.specs.Sizes.{textWidth}
 use Rattle.isa.specs.Text.{padded}
 use Rattle.encoding.specs.Bytes.{over}
 use Rattle.disasm.specs.Disassembly.{disassembleText}
@@ -33,8 +34,8 @@ refused n = negℤ (pos n)
 -- a text in its field of 32 bytes; refused 5: the buffer has no room for the field
 unfoldable pub disassembleOutcome : ℕ → List ℕ → Outcome
 disassembleOutcome w out =
-    cond (ltb (length out) 32) (outcome (refused 5) out)
-    (outcome (lengthOf (length (disassembleText w))) (over out 0 (padded 32 (disassembleText w))))
+    cond (ltb (length out) textWidth) (outcome (refused 5) out)
+    (outcome (lengthOf (length (disassembleText w))) (over out 0 (padded textWidth (disassembleText w))))
 
 -- the answer of the listing as a number
 abbrev pub listedNumber : Listed → ℤ

@@ -5,8 +5,9 @@ use mathlib.Core.Bool.{cond}
 use mathlib.Core.List.{List, []}
 use lib.Dec.{ltb}
 use lib.ListN.{length}
+use Rattle.isa.specs.Sizes.{memoryWords}
 use Rattle.encoding.specs.Bytes.{numbers}
-use Rattle.tick.specs.Count.{overCounted}
+use Rattle.control.specs.Count.{overCounted}
 use Rattle.vm.specs.declared.machine.Machine.{Machine as Code}
 use Rattle.vm.specs.Machine.{Machine, microStep}
 use Rattle.vm.specs.Instruction.{stepInstruction}
@@ -15,7 +16,7 @@ use Rattle.vm.specs.Calls.{viewOf, restarted, imageWords}
 
 -- how many words count of so many bytes
 abbrev pub wordCount : ℕ → ℕ
-wordCount n = cond (ltb (n / 2) 256) (n / 2) 256
+wordCount n = cond (ltb (n / 2) memoryWords) (n / 2) memoryWords
 
 -- the words of an image, high byte first; an odd byte at the end is none
 unfoldable pub wordsOf : List ℕ → List ℕ

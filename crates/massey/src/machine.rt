@@ -3,6 +3,7 @@
 ghost use mathlib.Core.Path.{_≡_};
 ghost use Rattle.massey.specs.Machine.{wordCount, start, runCount, stepsCount, ticksCount};
 use encoding::get_words;
+use isa::MEMORY_WORDS;
 use vm::Begun;
 use vm::Machine;
 
@@ -11,7 +12,7 @@ fn word_count(bytes: usize) -> usize
     ensures { λ r. ⌜ r ≡ wordCount bytes ⌝ }
 {
     let n = bytes / 2;
-    if n < 256 { n } else { 256 }
+    if n < MEMORY_WORDS { n } else { MEMORY_WORDS }
 }
 
 // A new machine with the image's words loaded, high byte first; an odd byte at the end is none.
@@ -19,7 +20,7 @@ pub(crate) fn started(image: &[u8]) -> Machine
     ensures { λ r. ⌜ r ≡ start (now (image .entry)) ⌝ }
 {
     let n = word_count(image.len());
-    let mut words = [0u16; 256];
+    let mut words = [0u16; MEMORY_WORDS];
     get_words(image, 0, &mut words[..n]);
     let new = Machine::new();
     let served = new.load_image(&words[..n]);

@@ -6,13 +6,17 @@ use crate::state::alu_number;
 use crate::state::control_number;
 use crate::state::fault_number;
 use crate::state::transfer_number;
+use control::Control;
+use control::Counters;
+use control::State;
 use encoding::put_bytes;
 use encoding::put_number;
 use encoding::put_words;
 use libc::STDOUT_FILENO;
-use tick::Control;
-use tick::Counters;
-use tick::State;
+use trace::ADDRESSES_AT;
+use trace::COLUMNS_LENGTH;
+use trace::PHASES_AT;
+use trace::TRACE_LIMIT;
 use vm::Machine;
 
 // The longest dump of a machine: with every address touched and a full trace.
@@ -85,7 +89,7 @@ fn append_touched(out: &mut [u8], at: usize, m: Machine) -> usize {
 // The text in a slot of the trace, its live bytes alone. A length over 32 is cut: the next bytes are
 // another slot's.
 fn live_text(columns: &[u8], slot: usize, len: u8) -> &[u8] {
-    let from = slot % 512 * 32;
+    let from = slot % TRACE_LIMIT * 32;
     if from < columns.len() {
         first(first(&columns[from..], 32), len as usize)
     } else {
@@ -117,25 +121,25 @@ fn append_ring(
     from: usize,
     start: usize,
     n: usize,
-    columns: &[u8; 17408],
-    numbers: &[u64; 512],
-    lengths: &[u8; 512],
+    columns: &[u8; COLUMNS_LENGTH],
+    numbers: &[u64; TRACE_LIMIT],
+    lengths: &[u8; TRACE_LIMIT],
 ) -> usize {
     let mut at = from;
     let mut i = 0;
-    while i < 512 {
+    while i < TRACE_LIMIT {
         if i == n {
             return at;
         }
-        let slot = (start % 512 + i) % 512;
+        let slot = (start % TRACE_LIMIT + i) % TRACE_LIMIT;
         let len = lengths[slot];
         let text = live_text(columns, slot, len);
         at = append_record(
             out,
             at,
             numbers[slot],
-            columns[16384 + slot],
-            columns[16896 + slot],
+            columns[ADDRESSES_AT + slot],
+            columns[PHASES_AT + slot],
             len,
             text,
         );

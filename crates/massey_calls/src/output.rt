@@ -1,6 +1,7 @@
 // What goes to standard output. An answer is put together in lent bytes and written by one call.
 use encoding::put_bytes;
 use encoding::put_words;
+use isa::MEMORY_WORDS;
 use libc::STDOUT_FILENO;
 
 // The longest answer of a call: that of `step_instruction`, behind its refusal.
@@ -22,7 +23,7 @@ pub(crate) fn append(out: &mut [u8], at: usize, bytes: &[u8]) -> usize {
 }
 
 // The same for the 256 words of a memory, two bytes each.
-pub(crate) fn append_words(out: &mut [u8], at: usize, words: [u16; 256]) -> usize {
+pub(crate) fn append_words(out: &mut [u8], at: usize, words: [u16; MEMORY_WORDS]) -> usize {
     let mut bytes = [0u8; 512];
     put_words(&mut bytes, 0, &words);
     append(out, at, &bytes)

@@ -1,9 +1,10 @@
 // The commands that set one field of the machine or one byte of the store, to reach states that no
 // call reaches.
+use control::Control;
+use control::Counters;
 use encoding::get_number;
 use encoding::put_number;
-use tick::Control;
-use tick::Counters;
+use trace::TRACE_LIMIT;
 use vm::Machine;
 
 // A value that has to fit a byte.
@@ -89,7 +90,7 @@ fn set_touched(old: Machine, index: usize, address: u8) -> Machine {
 fn set_length(old: Machine, index: usize, length: u8) -> Machine {
     let mut m = old;
     let mut lengths = m.lengths;
-    let slot = (m.trace_start % 512 + index % 512) % 512;
+    let slot = (m.trace_start % TRACE_LIMIT + index % TRACE_LIMIT) % TRACE_LIMIT;
     lengths[slot] = length;
     m.lengths = lengths;
     m

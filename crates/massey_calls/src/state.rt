@@ -1,13 +1,13 @@
 // The parts of a machine's state as answers and dumps have them.
 ghost use Prim.Native.Nat.{_<_};
+use control::AluOperation;
+use control::AluRecord;
+use control::BusTransfer;
+use control::Control;
+use control::Fault;
+use control::RegisterWrite;
+use control::WordOption;
 use plan::Phase;
-use tick::AluOperation;
-use tick::AluRecord;
-use tick::BusTransfer;
-use tick::Control;
-use tick::Fault;
-use tick::RegisterWrite;
-use tick::WordOption;
 
 // A phase's place among the phases.
 pub(crate) fn phase_number(phase: Phase) -> u8 {

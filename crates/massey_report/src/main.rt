@@ -4,6 +4,7 @@ use answer::first;
 use answer::put_refusal;
 use libc::STDIN_FILENO;
 use libc::STDOUT_FILENO;
+use report::REPORT_LENGTH;
 use report::Reported;
 use report::report_bytes;
 
@@ -11,13 +12,10 @@ use report::report_bytes;
 // and one more shows that an input is longer than its counts say. So the rest need not be read.
 const INPUT: usize = 1037;
 
-// The longest report.
-const REPORT: usize = 33930;
-
 fn main() {
     let mut input = [0u8; INPUT];
     let n = io::read_full(STDIN_FILENO, &mut input);
-    let mut out = [0u8; REPORT];
+    let mut out = [0u8; REPORT_LENGTH];
     let reported = report_bytes(&input[..n], &mut out);
     match reported {
         Reported::Written(size) => write_first(&out, size),

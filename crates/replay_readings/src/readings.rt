@@ -8,6 +8,7 @@ use encoding::put_bytes;
 use encoding::put_number;
 use encoding::put_words;
 use isa::ByteOption;
+use isa::MEMORY_WORDS;
 use replay::byte_at;
 use replay::word_at;
 use vm::Machine;
@@ -106,7 +107,11 @@ fn put_position(out: &mut [u8], at: usize, m: Machine) -> u8 {
 fn live_words(count: usize) -> usize
     ensures { λ r. ⌜ r ≤ 256 ⌝ }
 {
-    if count < 256 { count } else { 256 }
+    if count < MEMORY_WORDS {
+        count
+    } else {
+        MEMORY_WORDS
+    }
 }
 
 // What is read of the image. This and the next two tell whether every reading was served.

@@ -3,11 +3,9 @@ use answer::first;
 use answer::put_refusal;
 use check::same;
 use replay::word_at;
+use report::REPORT_LENGTH;
 use report::Reported;
 use report::report_bytes;
-
-// The longest report.
-const REPORT: usize = 33930;
 
 // Puts what the report program would write at the start of `out`, and tells how many bytes that are.
 fn put_answer(input: &[u8], out: &mut [u8]) -> usize {
@@ -25,7 +23,7 @@ pub(crate) fn passes(record: &[u8]) -> bool {
     if record.len() < from {
         return false;
     }
-    let mut due = [0u8; REPORT];
+    let mut due = [0u8; REPORT_LENGTH];
     let size = put_answer(&record[3..from], &mut due);
     same(&record[from..], first(&due, size))
 }

@@ -2,6 +2,7 @@
 // one that is a byte too short. The listing has its own length, so it is compared where it lies.
 use check::same;
 use encoding::get_words;
+use isa::MEMORY_WORDS;
 use listing::Listed;
 use listing::disassemble_image;
 use replay::word_at;
@@ -80,13 +81,13 @@ fn words_pass(record: &[u8], words: &mut [u16], answer: &[u8]) -> bool {
 // The question is the number of words and the words. More than 256 have no listing.
 pub(crate) fn passes(record: &[u8]) -> bool {
     let n = word_at(record, 1) as usize;
-    if 256 < n {
+    if MEMORY_WORDS < n {
         return false;
     }
     let end = 3 + 2 * n;
     if record.len() < end {
         return false;
     }
-    let mut words = [0u16; 256];
+    let mut words = [0u16; MEMORY_WORDS];
     words_pass(record, &mut words[0..n], &record[end..])
 }

@@ -9,6 +9,13 @@ use crate::state::transfer_number;
 use crate::state::transfer_of;
 use crate::state::write_number;
 use check::same;
+use control::Control;
+use control::Counters;
+use control::Operands;
+use control::State;
+use control::Tick;
+use control::count_tick;
+use control::is_lawful;
 use encoding::put_bytes;
 use encoding::put_number;
 use plan::phase_of;
@@ -16,13 +23,6 @@ use plan::tick_text;
 use replay::byte_at;
 use replay::put_text;
 use replay::word_at;
-use tick::Control;
-use tick::Counters;
-use tick::Operands;
-use tick::State;
-use tick::Tick;
-use tick::count_tick;
-use tick::is_lawful;
 use tick::tick_of;
 
 // The control unit that the question has. It runs: a halted machine has no tick.

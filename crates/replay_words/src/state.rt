@@ -1,16 +1,16 @@
 // The parts of a machine's state as a record has them. A number of no kind is read as some kind; the
 // question that is then due has another number, and so the record fails.
+use control::AluOperation;
+use control::AluRecord;
+use control::BusTransfer;
+use control::Control;
+use control::Fault;
+use control::RegisterWrite;
+use control::State;
+use control::WordOption;
 use encoding::put_bytes;
 use encoding::put_number;
 use plan::Phase;
-use tick::AluOperation;
-use tick::AluRecord;
-use tick::BusTransfer;
-use tick::Control;
-use tick::Fault;
-use tick::RegisterWrite;
-use tick::State;
-use tick::WordOption;
 
 // A phase's place among the phases.
 pub(crate) fn phase_number(phase: Phase) -> u8 {

@@ -17,12 +17,12 @@ use Rattle.isa.specs.Text.{text, textOf, padded}
 use Rattle.isa.specs.Word.{decodeWord, byteYZ}
 use Rattle.isa.proofs.Texts.{textOf-text}
 use Rattle.plan.specs.Plan.{executeTicks, tickText}
-use Rattle.tick.specs.declared.control.State.{State}
-use Rattle.tick.specs.declared.control.Control.{Control}
-use Rattle.tick.specs.declared.control.Operands.{Operands}
-use Rattle.tick.specs.declared.control.Tick.{Tick}
-use Rattle.tick.specs.declared.control.BusTransfer.{BusTransfer}
-use Rattle.tick.specs.declared.control.BusTransfer.the-variants.{Idle, Read, Write}
+use Rattle.control.specs.declared.control.State.{State}
+use Rattle.control.specs.declared.control.Control.{Control}
+use Rattle.control.specs.declared.control.Operands.{Operands}
+use Rattle.control.specs.declared.control.Tick.{Tick}
+use Rattle.control.specs.declared.control.BusTransfer.{BusTransfer}
+use Rattle.control.specs.declared.control.BusTransfer.the-variants.{Idle, Read, Write}
 use Rattle.tick.specs.Tick.{decodeTick, decodeTo, nextPc, haltingTick, plain, withControl, toTick, executeTick, loadTick, storeTick, endedTick, laterTick, onward, tickOf}
 use Rattle.trace.specs.declared.records.TraceRecord.{TraceRecord}
 use Rattle.guard.specs.declared.stops.GuardedStop.{GuardedStop}

@@ -9,8 +9,8 @@ use lib.Dec.{leb}
 use lib.ListN.{length, getD}
 use Rattle.encoding.proofs.Written.{take-over}
 use Rattle.isa.specs.Text.{padded, textOf}
-use Rattle.tick.specs.Lawful.{lawful}
-use Rattle.tick.proofs.Lawfuls.{both}
+use Rattle.control.specs.Lawful.{lawful}
+use Rattle.control.proofs.Lawfuls.{both}
 use Rattle.vm.specs.declared.machine.Machine.{Machine as Code}
 use Rattle.trace.specs.Trace.{liveLengths, shortTexts}
 use Rattle.vm.specs.Refusal.{partsOk}

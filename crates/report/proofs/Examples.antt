@@ -7,7 +7,7 @@ use lib.ListN.{length, replicate}
 use Rattle.encoding.specs.Bytes.{bigEndian}
 use Rattle.isa.specs.Opcode.{digits, decodeNibble}
 use Rattle.tick.specs.Tick.{tickOf, decodeTick}
-use Rattle.tick.specs.Count.{countTick}
+use Rattle.control.specs.Count.{countTick}
 use Rattle.trace.specs.Trace.{pushed, liveTrace}
 use Rattle.vm.specs.Machine.{microStep}
 use Rattle.vm.specs.Instruction.{ticked, steps, stepInstruction}

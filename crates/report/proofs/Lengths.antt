@@ -12,8 +12,8 @@ use Rattle.encoding.proofs.Numbers.{length-bigEndian}
 use Rattle.encoding.proofs.Written.{length-each}
 use Rattle.isa.specs.Text.{padded, textOf}
 use Rattle.isa.proofs.Texts.{length-padded}
-use Rattle.tick.specs.declared.control.State.{State}
-use Rattle.tick.specs.declared.counters.Counters.{Counters}
+use Rattle.control.specs.declared.control.State.{State}
+use Rattle.control.specs.declared.counters.Counters.{Counters}
 use Rattle.trace.specs.declared.records.TraceRecord.{TraceRecord}
 use Rattle.vm.specs.Calls.{imageWords}
 use Rattle.vm.specs.Machine.{Machine}

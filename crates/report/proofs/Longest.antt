@@ -7,7 +7,7 @@ use lib.ListN.{length, replicate}
 use Rattle.isa.specs.Opcode.{digits, decodeNibble}
 use Rattle.encoding.specs.Bytes.{member}
 use Rattle.tick.specs.Tick.{tickOf, decodeTick, executeTick}
-use Rattle.tick.specs.Count.{countTick}
+use Rattle.control.specs.Count.{countTick}
 use Rattle.trace.specs.Trace.{pushed, liveTrace}
 use Rattle.trace.specs.Touched.{noted}
 use Rattle.vm.specs.Machine.{microStep}

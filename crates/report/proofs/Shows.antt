@@ -13,9 +13,9 @@ use Rattle.isa.specs.Text.{padded}
 use Rattle.isa.proofs.Texts.{length-padded}
 use Rattle.disasm.specs.Disassembly.{disassembleText}
 use Rattle.disasm.proofs.Texts.{disassembly-padded}
-use Rattle.tick.specs.declared.counters.Counters.{Counters}
-use Rattle.tick.specs.declared.control.Fault.{Fault}
-use Rattle.tick.specs.declared.control.Fault.the-variants.{Healthy, UnknownInstruction, StepBudgetExhausted}
+use Rattle.control.specs.declared.counters.Counters.{Counters}
+use Rattle.control.specs.declared.control.Fault.{Fault}
+use Rattle.control.specs.declared.control.Fault.the-variants.{Healthy, UnknownInstruction, StepBudgetExhausted}
 use Rattle.marks.specs.Marks.{marked}
 use Rattle.report.proofs.Levels.{Twin}
 use Rattle.report.specs.Report.{headRecord, byteRecord, shown, shownText, valueRecord, startRecord, faultBytes, countBytes, controlBytes}

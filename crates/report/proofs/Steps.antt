@@ -14,12 +14,12 @@ use Rattle.isa.specs.Text.{ascii, text}
 use Rattle.isa.specs.Word.{decodeWord}
 use Rattle.isa.specs.Format.{fill}
 use Rattle.plan.specs.Plan.{fetchText, executeText, tickTemplate, tickText}
-use Rattle.tick.specs.declared.control.BusTransfer.{BusTransfer}
-use Rattle.tick.specs.declared.control.BusTransfer.the-variants.{Idle, Read}
-use Rattle.tick.specs.declared.control.AluRecord.{AluRecord}
-use Rattle.tick.specs.declared.control.AluRecord.the-variants.{Unused}
+use Rattle.control.specs.declared.control.BusTransfer.{BusTransfer}
+use Rattle.control.specs.declared.control.BusTransfer.the-variants.{Idle, Read}
+use Rattle.control.specs.declared.control.AluRecord.{AluRecord}
+use Rattle.control.specs.declared.control.AluRecord.the-variants.{Unused}
 use Rattle.tick.specs.Tick.{decodeAs, decodeTick, executeTick, onward, tickOf}
-use Rattle.tick.specs.Count.{countTick}
+use Rattle.control.specs.Count.{countTick}
 use Rattle.trace.specs.declared.records.TraceRecord.{TraceRecord}
 use Rattle.trace.specs.Trace.{pushed}
 use Rattle.vm.specs.Machine.{Machine, operandsOf, nextText, afterTick, microStep}

@@ -14,7 +14,7 @@ use Rattle.isa.specs.declared.opcode.Decoded.the-variants.{Known, Unknown}
 use Rattle.isa.specs.Word.{decodeWord, digitX, digitY, digitZ, byteYZ}
 use Rattle.plan.specs.Plan.{executeText}
 use Rattle.tick.specs.Tick.{executeTick, sum16, negate16, right16, left16}
-use Rattle.tick.specs.Count.{countTick}
+use Rattle.control.specs.Count.{countTick}
 use Rattle.vm.specs.Machine.{Machine}
 use Rattle.vm.specs.Instruction.{stepInstruction}
 use Rattle.marks.specs.Marks.{Marks, mdrMarked, executedMarks, instructionMarks}

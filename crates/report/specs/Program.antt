@@ -6,9 +6,10 @@ use mathlib.Core.Bool.{Bool, cond, not, _&&_}
 use mathlib.Core.List.{List}
 use lib.Dec.{eqb, ltb}
 use lib.ListN.{length, take, drop}
+use Rattle.isa.specs.Sizes.{memoryWords}
 use Rattle.encoding.specs.Bytes.{within, numbers, readNumber}
 use Rattle.marks.specs.Marks.{marked}
-use Rattle.guard.specs.Input.{Input, zeroOne}
+use Rattle.guard.specs.Input.{Input, zeroOne, breakLimit, budgetLimit}
 use Rattle.report.specs.Report.{reportBytes}
 use Rattle.report.specs.Public.{reportLimit}
 use Rattle.report.specs.Outcome.{Outcome, served, unlessRefused}
@@ -18,7 +19,7 @@ abbrev pub marksAt : ℕ → ℕ
 marksAt n = 2 + 2 * n
 
 abbrev pub budgetAt : ℕ → ℕ
-budgetAt n = marksAt n + 256
+budgetAt n = marksAt n + memoryWords
 
 abbrev pub countAt : ℕ → ℕ
 countAt n = budgetAt n + 8
@@ -42,23 +43,23 @@ inputOf b =
     let n = imageLength b in
     record {
       image = numbers 2 n (drop 2 b);
-      marks = take 256 (drop (marksAt n) b);
+      marks = take memoryWords (drop (marksAt n) b);
       budget = budgetIn b;
       breaks = take (breakCount b) (drop (breaksAt n) b);
     }
 
 -- the 256 marks from index at on are wholly there, and one is not 0 or 1
 abbrev pub badMarks : List ℕ → ℕ → Bool
-badMarks b at = within b at 256 && not (zeroOne (take 256 (drop at b)))
+badMarks b at = within b at memoryWords && not (zeroOne (take memoryWords (drop at b)))
 
 -- the first test that refuses, by its number, whatever the order of the parts; 0 for none
 -- image length, whether a mark is bad, breakpoint count, budget, length of the buffer, whether the bytes are as many as their counts say
 unfoldable pub firstRefusal : ℕ → Bool → ℕ → ℕ → ℕ → Bool → ℕ
 firstRefusal words bad count budget room whole =
-    cond (ltb 256 words) 1
+    cond (ltb memoryWords words) 1
     (cond bad 2
-    (cond (ltb 256 count) 3
-    (cond (ltb 1000000 budget) 4
+    (cond (ltb breakLimit count) 3
+    (cond (ltb budgetLimit budget) 4
     (cond (ltb room reportLimit) 5
     (cond whole 0 6)))))
 

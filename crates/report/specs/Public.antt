@@ -5,6 +5,7 @@ use mathlib.Core.Path.{_≡_}
 use mathlib.Core.Bool.{false, cond}
 use lib.Dec.{eqb, ltb}
 use lib.ListN.{length, getD}
+use Rattle.isa.specs.Sizes.{memoryWords}
 use Rattle.vm.specs.Calls.{imageWords}
 use Rattle.marks.specs.Marks.{marked}
 use Rattle.guard.specs.Input.{Input, inputRefusal}
@@ -23,4 +24,4 @@ pub record SamePublic (i j : Input) : Type 0 where
   pub budget : i .budget ≡ j .budget
   pub breaks : i .breaks ≡ j .breaks
   pub marks : i .marks ≡ j .marks
-  pub words : (a : ℕ) → a < 256 → marked (getD (i .marks) a 0) ≡ false → getD (imageWords (i .image)) a 0 ≡ getD (imageWords (j .image)) a 0
+  pub words : (a : ℕ) → a < memoryWords → marked (getD (i .marks) a 0) ≡ false → getD (imageWords (i .image)) a 0 ≡ getD (imageWords (j .image)) a 0

@@ -4,12 +4,13 @@ use Prim.Native.Nat.{ℕ}
 use mathlib.Core.Bool.{Bool, cond}
 use mathlib.Core.List.{List, [], _∷_, _++_}
 use lib.ListN.{length, getD}
+use Rattle.isa.specs.Sizes.{memoryWords, registerCount, textWidth}
 use Rattle.encoding.specs.Bytes.{bigEndian, eachFrom}
 use Rattle.isa.specs.Text.{padded, text, textOf}
 use Rattle.disasm.specs.Disassembly.{disassembleText}
-use Rattle.tick.specs.declared.control.Fault.{Fault}
-use Rattle.tick.specs.declared.control.State.{State}
-use Rattle.tick.specs.declared.counters.Counters.{Counters}
+use Rattle.control.specs.declared.control.Fault.{Fault}
+use Rattle.control.specs.declared.control.State.{State}
+use Rattle.control.specs.declared.counters.Counters.{Counters}
 use Rattle.history.specs.Record.{codeOf}
 use Rattle.trace.specs.declared.records.TraceRecord.{TraceRecord}
 use Rattle.vm.specs.Machine.{Machine}
@@ -30,7 +31,7 @@ module _ (hid : ℕ → Bool) where
 
   -- the disassembly in 32 bytes, zero padded, all zero if hidden: mark, word
   unfoldable pub shownText : ℕ → ℕ → List ℕ
-  shownText m w = padded 32 (cond (hid m) [] (disassembleText w))
+  shownText m w = padded textWidth (cond (hid m) [] (disassembleText w))
 
   -- kind, index, mark, value
   unfoldable pub valueRecord : ℕ → ℕ → ℕ → ℕ → List ℕ
@@ -42,7 +43,7 @@ module _ (hid : ℕ → Bool) where
 
   -- one for each of 256 words: the words, their marks
   unfoldable pub startRecords : List ℕ → List ℕ → List ℕ
-  startRecords words marks = eachFrom (λ a. startRecord a (getD marks a 0) (getD words a 0)) 0 256
+  startRecords words marks = eachFrom (λ a. startRecord a (getD marks a 0) (getD words a 0)) 0 memoryWords
 
 -- kind 03, a breakpoint, and kind 07, a touched address: kind, the list, the number in it
 unfoldable pub byteRecord : ℕ → List ℕ → ℕ → List ℕ
@@ -58,7 +59,7 @@ traceBytes number address phase bytes = 4 ∷ (bigEndian 8 number ++ (address �
 
 -- kind 04, a trace record: the text is zero padded
 unfoldable pub traceRecord : TraceRecord → List ℕ
-traceRecord r = traceBytes (r .number) (r .address) (r .phase) (padded 32 (textOf (r .text)))
+traceRecord r = traceBytes (r .number) (r .address) (r .phase) (padded textWidth (textOf (r .text)))
 
 -- what stands for one past the end
 abbrev pub noRecord : TraceRecord
@@ -95,8 +96,8 @@ module _ (hid : ℕ → Bool) where
   unfoldable pub endRecords : ℕ → Machine → Marks → List ℕ
   endRecords stop m k =
       traceRecords (m .trace)
-      ++ (valueRecords hid 5 16 (m .registers) (k .registers)
-      ++ (valueRecords hid 6 256 (m .memory) (k .memory)
+      ++ (valueRecords hid 5 registerCount (m .registers) (k .registers)
+      ++ (valueRecords hid 6 memoryWords (m .memory) (k .memory)
       ++ (byteRecords 7 (m .touched) ++ endRecord stop (m .state) (m .counters) (k .mdr))))
 
   unfoldable pub endBytes : GuardedEnd → List ℕ

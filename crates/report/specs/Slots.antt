@@ -4,6 +4,8 @@ use Prim.Native.Nat.{ℕ, _+_, _*_, _%_, _≤_}
 use mathlib.Core.Path.{_≡_}
 use mathlib.Core.List.{List}
 use lib.ListN.{take, drop, getD}
+use Rattle.trace.specs.Trace.{traceLimit, addressesAt, phasesAt}
+use Rattle.isa.specs.Sizes.{memoryWords, textWidth}
 use Rattle.encoding.specs.Bytes.{eachFrom}
 use Rattle.isa.specs.Text.{padded, textOf}
 use Rattle.vm.specs.declared.machine.Machine.{Machine as Code}
@@ -15,17 +17,17 @@ use Rattle.report.specs.Report.{traceBytes, noRecord}
 
 -- the record in slot j: columns of bytes (address and phase each in its own), numbers
 abbrev pub slotBytes : List ℕ → List ℕ → ℕ → List ℕ
-slotBytes k i j = traceBytes (getD i j 0) (getD k (16384 + j) 0) (getD k (16896 + j) 0) (take 32 (drop (j * 32) k))
+slotBytes k i j = traceBytes (getD i j 0) (getD k (addressesAt + j) 0) (getD k (phasesAt + j) 0) (take textWidth (drop (j * textWidth) k))
 
 -- n records, the oldest in slot start modulo 512
 unfoldable pub slotRecords : ℕ → ℕ → List ℕ → List ℕ → List ℕ
-slotRecords start n k i = eachFrom (λ j. slotBytes k i ((start % 512 + j) % 512)) 0 n
+slotRecords start n k i = eachFrom (λ j. slotBytes k i ((start % traceLimit + j) % traceLimit)) 0 n
 
 -- its counts are within its arrays, and each text has zeros behind its live bytes
 pub record Reportable (m : Code) : Type 0 where
-  pub trace : m .«trace_len» ≤ 512
-  pub touched : m .«touched_len» ≤ 256
-  pub texts : (i : ℕ) → padded 32 (textOf (getD (viewOf m .trace) i noRecord .text)) ≡ getD (viewOf m .trace) i noRecord .text .bytes
+  pub trace : m .«trace_len» ≤ traceLimit
+  pub touched : m .«touched_len» ≤ memoryWords
+  pub texts : (i : ℕ) → padded textWidth (textOf (getD (viewOf m .trace) i noRecord .text)) ≡ getD (viewOf m .trace) i noRecord .text .bytes
 
 -- what a run is given, and how it ended, of the parts that the code has: image, marks, budget, breakpoints; stop, machine, the marks of registers, of memory and of MDR
 abbrev pub inputFrom : List ℕ → List ℕ → ℕ → List ℕ → Input

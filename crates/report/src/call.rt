@@ -2,6 +2,7 @@
 ghost use mathlib.Core.Path.{_≡_};
 ghost use Rattle.report.specs.Slots.{inputFrom};
 ghost use Rattle.report.specs.Outcome.{outcome, reportOutcome};
+use crate::REPORT_LENGTH;
 use crate::Reported;
 use crate::whole::write_report;
 use vm::Begun;
@@ -23,7 +24,7 @@ pub fn report(
     if refused != 0 {
         return Reported::Refused(refused);
     }
-    if out.len() < 33930 {
+    if out.len() < REPORT_LENGTH {
         return Reported::Refused(5);
     }
     let machine = run.machine;

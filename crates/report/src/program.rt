@@ -5,11 +5,15 @@ ghost use mathlib.Core.Path.{_≡_};
 ghost use Prim.Native.Nat.{_+_};
 ghost use Rattle.report.specs.Outcome.{outcome};
 ghost use Rattle.report.specs.Program.{badMarks, firstRefusal, bytesOutcome};
+use crate::REPORT_LENGTH;
 use crate::Reported;
 use crate::call::report;
 use encoding::get_number;
 use encoding::get_words;
+use guard::BREAK_LIMIT;
+use guard::BUDGET_LIMIT;
 use guard::zero_one;
+use isa::MEMORY_WORDS;
 
 // The 256 marks, from index `at` up to `end`, are wholly there, and one is not 0 or 1.
 fn bad_marks(input: &[u8], at: usize, end: usize) -> bool
@@ -28,19 +32,19 @@ fn bad_marks(input: &[u8], at: usize, end: usize) -> bool
 fn first_refusal(words: usize, bad: bool, count: usize, budget: u64, room: usize, whole: bool) -> u8
     ensures { λ r. ⌜ r ≡ firstRefusal words bad count budget room whole ⌝ }
 {
-    if 256 < words {
+    if MEMORY_WORDS < words {
         return 1;
     }
     if bad {
         return 2;
     }
-    if 256 < count {
+    if BREAK_LIMIT < count {
         return 3;
     }
-    if 1000000 < budget {
+    if BUDGET_LIMIT < budget {
         return 4;
     }
-    if room < 33930 {
+    if room < REPORT_LENGTH {
         return 5;
     }
     if whole { 0 } else { 6 }
@@ -53,7 +57,7 @@ pub fn report_bytes(input: &[u8], out: &mut [u8]) -> Reported
 {
     let n = get_number(input, 0, 2) as usize;
     let marks_at = 2 + 2 * n;
-    let budget_at = marks_at + 256;
+    let budget_at = marks_at + MEMORY_WORDS;
     let count_at = budget_at + 8;
     let breaks_at = count_at + 2;
     let bad = bad_marks(input, marks_at, budget_at);
@@ -64,7 +68,7 @@ pub fn report_bytes(input: &[u8], out: &mut [u8]) -> Reported
     if refused != 0 {
         return Reported::Refused(refused);
     }
-    let mut words = [0u16; 256];
+    let mut words = [0u16; MEMORY_WORDS];
     get_words(input, 2, &mut words[..n]);
     report(
         &words[..n],

@@ -6,12 +6,12 @@ ghost use lib.ListN.{length};
 ghost use Rattle.encoding.specs.Bytes.{over};
 ghost use Rattle.marks.specs.Marks.{marked};
 ghost use Rattle.report.specs.Report.{headRecord, shown, shownText, valueRecord, startRecord, traceBytes, faultBytes, countBytes, controlBytes, endRecord};
+use control::Counters;
+use control::Fault;
+use control::State;
 use disasm::disassemble_into;
 use encoding::put_bytes;
 use encoding::put_number;
-use tick::Counters;
-use tick::Fault;
-use tick::State;
 
 // Kind 01, at byte 0: image length, budget, breakpoint count.
 pub(crate) fn put_head(out: &mut [u8], len: usize, budget: u64, count: usize)

@@ -12,6 +12,10 @@ use crate::records::put_byte;
 use crate::records::put_start;
 use crate::records::put_traced;
 use crate::records::put_value;
+use isa::MEMORY_WORDS;
+use trace::ADDRESSES_AT;
+use trace::PHASES_AT;
+use trace::TRACE_LIMIT;
 
 // The word at an address; past the image it is 0.
 fn word_at(image: &[u16], address: usize) -> u16
@@ -29,7 +33,7 @@ pub(crate) fn put_starts(out: &mut [u8], image: &[u16], marks: &[u8])
     ensures { λ _. ⌜ now (out .exit) ≡ over (now (out .entry)) 13 (startRecords marked (imageWords (now (image .entry))) (now (marks .entry))) ⌝ }
 {
     let mut i = 0;
-    while i < 256 {
+    while i < MEMORY_WORDS {
         let word = word_at(image, i);
         put_start(out, 13 + 37 * i, i as u8, marks[i], word);
         i += 1;
@@ -60,18 +64,18 @@ pub(crate) fn put_trace(
     requires { ⌜ (at + 43 * n ≤ length (now out)) × (length (now columns) ≡ columnsLength) × (length (now numbers) ≡ 512) ⌝ }
     ensures { λ _. ⌜ now (out .exit) ≡ over (now (out .entry)) at (slotRecords start n (now (columns .entry)) (now (numbers .entry))) ⌝ }
 {
-    let from = start % 512;
+    let from = start % TRACE_LIMIT;
     let mut i = 0;
     while i < n {
-        let slot = (from + i) % 512;
+        let slot = (from + i) % TRACE_LIMIT;
         let first = slot * 32;
         let last = first + 32;
         put_traced(
             out,
             at + 43 * i,
             numbers[slot],
-            columns[16384 + slot],
-            columns[16896 + slot],
+            columns[ADDRESSES_AT + slot],
+            columns[PHASES_AT + slot],
             &columns[first..last],
         );
         i += 1;

@@ -16,9 +16,9 @@ use crate::rows::put_list;
 use crate::rows::put_starts;
 use crate::rows::put_trace;
 use crate::rows::put_values;
+use control::Counters;
+use control::State;
 use guard::GuardedStop;
-use tick::Counters;
-use tick::State;
 use vm::Machine;
 
 // Kinds 01 to 03, at byte 0.

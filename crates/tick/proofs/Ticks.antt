@@ -6,10 +6,10 @@ use mathlib.Core.Path.{_≡_, refl, _∙_}
 use Rattle.isa.specs.declared.opcode.Decoded.{Decoded}
 use Rattle.isa.specs.Word.{decodeWord}
 use Rattle.plan.specs.Plan.{executeTicks}
-use Rattle.tick.specs.declared.control.Control.{Control}
-use Rattle.tick.specs.declared.control.State.{State}
-use Rattle.tick.specs.declared.control.Operands.{Operands}
-use Rattle.tick.specs.declared.control.Tick.{Tick}
+use Rattle.control.specs.declared.control.Control.{Control}
+use Rattle.control.specs.declared.control.State.{State}
+use Rattle.control.specs.declared.control.Operands.{Operands}
+use Rattle.control.specs.declared.control.Tick.{Tick}
 use Rattle.tick.specs.Tick.{decodeTo, decodeTick, fetchTick, executeTick, onward, tickOf}
 
 -- the control after the fourth tick, from the new PC and the number of execute ticks

@@ -1,3 +1,1 @@
 pub mod Tick
-pub mod Lawful
-pub mod Count

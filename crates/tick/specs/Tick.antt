@@ -10,28 +10,18 @@ use Rattle.isa.specs.declared.opcode.Decoded.{Decoded}
 use Rattle.isa.specs.declared.opcode.Decoded.the-variants.{Known, Unknown}
 use Rattle.isa.specs.Word.{decodeWord, digitX, digitY, byteYZ}
 use Rattle.plan.specs.Plan.{executeTicks}
-use Rattle.tick.specs.declared.control.Fault.the-variants.{UnknownInstruction}
-use Rattle.tick.specs.declared.control.BusTransfer.the-variants.{Idle, Read, Write}
-use Rattle.tick.specs.declared.control.WordOption.{WordOption}
-use Rattle.tick.specs.declared.control.WordOption.the-variants.{Some, None}
-use Rattle.tick.specs.declared.control.AluOperation.{AluOperation}
-use Rattle.tick.specs.declared.control.AluOperation.the-variants.{Add as ADD, Negate as NEGATE, Shr as SHR, Shl as SHL, And as AND, Or as OR, Xor as XOR}
-use Rattle.tick.specs.declared.control.AluRecord.the-variants.{Used}
-use Rattle.tick.specs.declared.control.RegisterWrite.the-variants.{Unwritten, Written}
-use Rattle.tick.specs.declared.control.Control.{Control}
-use Rattle.tick.specs.declared.control.State.{State}
-use Rattle.tick.specs.declared.control.Operands.{Operands}
-use Rattle.tick.specs.declared.control.Tick.{Tick}
-
--- the name of an operation of the ALU
-abbrev pub operationName : AluOperation → String
-operationName ADD = "ADD"
-operationName NEGATE = "NEGATE"
-operationName SHR = "SHR"
-operationName SHL = "SHL"
-operationName AND = "AND"
-operationName OR = "OR"
-operationName XOR = "XOR"
+use Rattle.control.specs.declared.control.Fault.the-variants.{UnknownInstruction}
+use Rattle.control.specs.declared.control.BusTransfer.the-variants.{Idle, Read, Write}
+use Rattle.control.specs.declared.control.WordOption.{WordOption}
+use Rattle.control.specs.declared.control.WordOption.the-variants.{Some, None}
+use Rattle.control.specs.declared.control.AluOperation.{AluOperation}
+use Rattle.control.specs.declared.control.AluOperation.the-variants.{Add as ADD, Negate as NEGATE, Shr as SHR, Shl as SHL, And as AND, Or as OR, Xor as XOR}
+use Rattle.control.specs.declared.control.AluRecord.the-variants.{Used}
+use Rattle.control.specs.declared.control.RegisterWrite.the-variants.{Unwritten, Written}
+use Rattle.control.specs.declared.control.Control.{Control}
+use Rattle.control.specs.declared.control.State.{State}
+use Rattle.control.specs.declared.control.Operands.{Operands}
+use Rattle.control.specs.declared.control.Tick.{Tick}
 
 -- the control with other registers: pc, ir, mar, mdr, instruction address, tick
 abbrev pub moved : ℕ → ℕ → ℕ → ℕ → ℕ → ℕ → Control → Control

@@ -13,7 +13,7 @@ use lib.Seq.{drop-cons, getD-drop, getD-take, length-take-le, take-take, take-su
 use Rattle.trace.specs.Trace.{turn, shortTexts}
 use Rattle.trace.specs.Touched.{distinct}
 use Rattle.encoding.specs.Bytes.{member}
-use Rattle.tick.proofs.Lawfuls.{true-false}
+use Rattle.control.proofs.Lawfuls.{true-false}
 
 -- ---- No address twice, by a table of those seen.
 

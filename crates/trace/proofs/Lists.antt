@@ -10,7 +10,7 @@ use borrow.Author.Tests.{ne-eqb, eqb-true, eqb-false}
 use lib.Dec.{eqb}
 use lib.ListN.{set, length, getD, drop}
 use lib.Seq.{drop-cons, drop-length}
-use Rattle.tick.proofs.Lawfuls.{true-false}
+use Rattle.control.proofs.Lawfuls.{true-false}
 use Rattle.trace.specs.Touched.{distinct}
 use Rattle.encoding.specs.Bytes.{member}
 

@@ -12,8 +12,8 @@ use lib.Dec.{ltb}
 use lib.ListN.{take, set, length-set}
 use lib.Seq.{length-take-le, getD-take, take-suc-set}
 use Rattle.encoding.specs.Bytes.{member}
-use Rattle.tick.specs.declared.control.BusTransfer.{BusTransfer}
-use Rattle.tick.specs.declared.control.BusTransfer.the-variants.{Idle, Read, Write}
+use Rattle.control.specs.declared.control.BusTransfer.{BusTransfer}
+use Rattle.control.specs.declared.control.BusTransfer.the-variants.{Idle, Read, Write}
 use Rattle.trace.specs.Touched.{noted, touchedBy, TouchFit, Places, placesOf, noteIn, touchIn}
 use Rattle.trace.proofs.Lists.{below-of, full, distinct-snoc, bytes-set}
 

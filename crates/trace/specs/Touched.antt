@@ -6,9 +6,10 @@ use mathlib.Core.Bool.{Bool, true, false, cond}
 use mathlib.Core.List.{List, [], _∷_, _++_}
 use lib.Dec.{ltb}
 use lib.ListN.{length, take, getD, set}
+use Rattle.isa.specs.Sizes.{memoryWords}
 use Rattle.encoding.specs.Bytes.{member}
-use Rattle.tick.specs.declared.control.BusTransfer.{BusTransfer}
-use Rattle.tick.specs.declared.control.BusTransfer.the-variants.{Idle, Read, Write}
+use Rattle.control.specs.declared.control.BusTransfer.{BusTransfer}
+use Rattle.control.specs.declared.control.BusTransfer.the-variants.{Idle, Read, Write}
 
 -- the addresses with one more, unless it is there
 unfoldable pub noted : ℕ → List ℕ → List ℕ
@@ -27,8 +28,8 @@ distinct (x ∷ xs) = cond (member x xs) false (distinct xs)
 
 -- what the array is between two ticks, n of its places live
 pub record TouchFit (n : ℕ) (t : List ℕ) : Type 0 where
-  pub count : n ≤ 256
-  pub long : length t ≡ 256
+  pub count : n ≤ memoryWords
+  pub long : length t ≡ memoryWords
   pub bytes : (i : ℕ) → getD t i 0 < 256
   pub differ : distinct (take n t) ≡ true
 
@@ -43,7 +44,7 @@ placesOf n t = record { count = n; items = t }
 
 -- an address written into the next place, unless it is there or there is none
 unfoldable pub noteIn : ℕ → Places → Places
-noteIn a q = cond (ltb (q .count) 256) (cond (member a (take (q .count) (q .items))) q (placesOf (q .count + 1) (set (q .items) (q .count) a))) q
+noteIn a q = cond (ltb (q .count) memoryWords) (cond (member a (take (q .count) (q .items))) q (placesOf (q .count + 1) (set (q .items) (q .count) a))) q
 
 unfoldable pub touchIn : BusTransfer → Places → Places
 touchIn Idle q = q

@@ -6,13 +6,18 @@ use mathlib.Core.Bool.{Bool, true, false, cond}
 use mathlib.Core.List.{List, [], _∷_, _++_}
 use lib.Dec.{ltb}
 use lib.ListN.{length, take, drop, getD, set}
+use Rattle.isa.specs.Sizes.{textWidth}
 use Rattle.isa.specs.declared.text.Text.{Text}
 use Rattle.trace.specs.declared.records.TraceRecord.{TraceRecord}
 use Rattle.trace.specs.declared.records.Ring.{Ring}
 
+-- the most records
+abbrev pub traceLimit : ℕ
+traceLimit = 512
+
 -- one record more; of 512 the oldest goes
 unfoldable pub pushed : {A : Type 0} → A → List A → List A
-pushed e t = cond (ltb (length t) 512) t (drop 1 t) ++ (e ∷ [])
+pushed e t = cond (ltb (length t) traceLimit) t (drop 1 t) ++ (e ∷ [])
 
 -- the n values of f, from 0 on
 unfoldable pub slots : {A : Type 0} → ℕ → (ℕ → A) → List A
@@ -25,7 +30,7 @@ turn l s = drop s l ++ take s l
 
 -- the text in a slot: texts, lengths
 abbrev pub textAt : List ℕ → List ℕ → ℕ → Text
-textAt x l k = record { bytes = take 32 (drop (k * 32) x); len = getD l k 0 }
+textAt x l k = record { bytes = take textWidth (drop (k * textWidth) x); len = getD l k 0 }
 
 -- the record in a slot: texts, numbers, addresses, phases, lengths
 abbrev pub recordAt : List ℕ → List ℕ → List ℕ → List ℕ → List ℕ → ℕ → TraceRecord
@@ -33,14 +38,14 @@ recordAt x i a p l k = record { number = getD i k 0; address = getD a k 0; phase
 
 -- the live records: the oldest one's slot, taken round the ring, and how many there are
 unfoldable pub liveTrace : ℕ → ℕ → List ℕ → List ℕ → List ℕ → List ℕ → List ℕ → List TraceRecord
-liveTrace start n x i a p l = take n (turn (slots 512 (recordAt x i a p l)) (start % 512))
+liveTrace start n x i a p l = take n (turn (slots traceLimit (recordAt x i a p l)) (start % traceLimit))
 
 -- their texts alone, and the lengths of those
 unfoldable pub liveTexts : ℕ → ℕ → List ℕ → List ℕ → List Text
-liveTexts start n x l = take n (turn (slots 512 (textAt x l)) (start % 512))
+liveTexts start n x l = take n (turn (slots traceLimit (textAt x l)) (start % traceLimit))
 
 unfoldable pub liveLengths : ℕ → ℕ → List ℕ → List ℕ
-liveLengths start n l = take n (turn l (start % 512))
+liveLengths start n l = take n (turn l (start % traceLimit))
 
 -- the last n of a list
 abbrev pub newest : {A : Type 0} → ℕ → List A → List A
@@ -49,7 +54,7 @@ newest n t = drop (length t - n) t
 -- no text is over 32 bytes
 unfoldable pub shortTexts : List ℕ → Bool
 shortTexts [] = true
-shortTexts (n ∷ l) = cond (ltb 32 n) false (shortTexts l)
+shortTexts (n ∷ l) = cond (ltb textWidth n) false (shortTexts l)
 
 -- the buffer d with xs written over it from place at
 abbrev pub pasted : List ℕ → ℕ → List ℕ → List ℕ
@@ -57,22 +62,29 @@ pasted d at xs = take at d ++ xs ++ drop (at + length xs) d
 
 -- ---- the ring with its three arrays, as they are lent: columns of bytes, one behind the other; the numbers; the lengths of the texts
 
--- a column of 512 bytes, from index at on
-unfoldable pub column : ℕ → List ℕ → List ℕ
-column at k = take 512 (drop at k)
+-- where the addresses begin, behind the texts, and the phases; and how long the columns are
+abbrev pub addressesAt : ℕ
+addressesAt = 16384
 
--- texts, addresses, phases
-unfoldable pub textsIn : List ℕ → List ℕ
-textsIn k = take 16384 k
-
-abbrev pub addressesIn : List ℕ → List ℕ
-addressesIn k = column 16384 k
-
-abbrev pub phasesIn : List ℕ → List ℕ
-phasesIn k = column 16896 k
+abbrev pub phasesAt : ℕ
+phasesAt = 16896
 
 abbrev pub columnsLength : ℕ
 columnsLength = 17408
+
+-- a column of 512 bytes, from index at on
+unfoldable pub column : ℕ → List ℕ → List ℕ
+column at k = take traceLimit (drop at k)
+
+-- texts, addresses, phases
+unfoldable pub textsIn : List ℕ → List ℕ
+textsIn k = take addressesAt k
+
+abbrev pub addressesIn : List ℕ → List ℕ
+addressesIn k = column addressesAt k
+
+abbrev pub phasesIn : List ℕ → List ℕ
+phasesIn k = column phasesAt k
 
 pub record Arrays : Type 0 where
   pub ring : Ring
@@ -92,10 +104,10 @@ live q = liveIn (q .ring .start) (q .ring .len) (q .columns) (q .numbers) (q .le
 
 -- what they are between two ticks
 pub record TraceFit (start n : ℕ) (k i l : List ℕ) : Type 0 where
-  pub count : n ≤ 512
+  pub count : n ≤ traceLimit
   pub columns : length k ≡ columnsLength
-  pub numbers : length i ≡ 512
-  pub lengths : length l ≡ 512
+  pub numbers : length i ≡ traceLimit
+  pub lengths : length l ≡ traceLimit
   pub short : shortTexts (liveLengths start n l) ≡ true
 
 abbrev pub ArraysFit : Arrays → Type 0
@@ -103,14 +115,14 @@ ArraysFit q = TraceFit (q .ring .start) (q .ring .len) (q .columns) (q .numbers)
 
 -- the slot of the next record: the one past the newest, and of 512 the oldest one's
 abbrev pub slotOf : Ring → ℕ
-slotOf g = (g .start % 512 + g .len % 512) % 512
+slotOf g = (g .start % traceLimit + g .len % traceLimit) % traceLimit
 
 unfoldable pub nextRing : Ring → Ring
-nextRing g = record { start = cond (ltb (g .len) 512) (g .start % 512) ((g .start % 512 + 1) % 512); len = cond (ltb (g .len) 512) (g .len + 1) (g .len) }
+nextRing g = record { start = cond (ltb (g .len) traceLimit) (g .start % traceLimit) ((g .start % traceLimit + 1) % traceLimit); len = cond (ltb (g .len) traceLimit) (g .len + 1) (g .len) }
 
 -- a record's bytes written into the columns at slot k
 unfoldable pub putColumns : TraceRecord → ℕ → List ℕ → List ℕ
-putColumns e k c = set (set (pasted c (k * 32) (e .text .bytes)) (16384 + k) (e .address)) (16896 + k) (e .phase)
+putColumns e k c = set (set (pasted c (k * textWidth) (e .text .bytes)) (addressesAt + k) (e .address)) (phasesAt + k) (e .phase)
 
 -- a record written into its slot
 unfoldable pub pushInto : TraceRecord → Arrays → Arrays

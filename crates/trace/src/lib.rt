@@ -7,3 +7,12 @@ pub use records::Ring;
 pub use records::TraceRecord;
 pub use records::push_trace;
 pub use touched::touch;
+
+// The most records of a trace.
+pub const TRACE_LIMIT: usize = 512;
+// The columns of bytes: texts, addresses, phases.
+pub const ADDRESSES_AT: usize = 16384;
+
+pub const PHASES_AT: usize = 16896;
+
+pub const COLUMNS_LENGTH: usize = 17408;

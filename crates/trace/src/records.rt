@@ -6,6 +6,10 @@ ghost use mathlib.Core.Path.{_≡_};
 ghost use Prim.Native.Nat.{_<_, _*_};
 ghost use lib.ListN.{length};
 ghost use Rattle.trace.specs.Trace.{columnsLength, pasted, arraysOf, nextRing, pushInto};
+use crate::ADDRESSES_AT;
+use crate::COLUMNS_LENGTH;
+use crate::PHASES_AT;
+use crate::TRACE_LIMIT;
 use isa::Text;
 
 // One register transfer: its number, the instruction's address, the phase (0 fetch, 2 execute), and
@@ -38,9 +42,9 @@ fn put_text(t: Text, at: usize, out: &mut [u8])
 fn next_ring(ring: Ring) -> Ring
     ensures { λ r. ⌜ r ≡ nextRing ring ⌝ }
 {
-    let from = ring.start % 512;
+    let from = ring.start % TRACE_LIMIT;
     let len = ring.len;
-    if len < 512 {
+    if len < TRACE_LIMIT {
         let more = len + 1;
         return Ring {
             start: from,
@@ -49,7 +53,7 @@ fn next_ring(ring: Ring) -> Ring
     }
     let second = from + 1;
     Ring {
-        start: second % 512,
+        start: second % TRACE_LIMIT,
         len,
     }
 }
@@ -61,18 +65,18 @@ pub fn push_trace(
     number: u64,
     address: u8,
     phase: u8,
-    columns: &mut [u8; 17408],
-    numbers: &mut [u64; 512],
-    lengths: &mut [u8; 512],
+    columns: &mut [u8; COLUMNS_LENGTH],
+    numbers: &mut [u64; TRACE_LIMIT],
+    lengths: &mut [u8; TRACE_LIMIT],
 ) -> Ring
     ensures { λ r. ⌜ arraysOf r (now (columns .exit)) (now (numbers .exit)) (now (lengths .exit)) ≡ pushInto (record { number = number; address = address; phase = phase; text = text }) (arraysOf ring (now (columns .entry)) (now (numbers .entry)) (now (lengths .entry))) ⌝ }
 {
-    let from = ring.start % 512;
-    let room = ring.len % 512;
-    let at = (from + room) % 512;
+    let from = ring.start % TRACE_LIMIT;
+    let room = ring.len % TRACE_LIMIT;
+    let at = (from + room) % TRACE_LIMIT;
     put_text(text, at, columns);
-    columns[16384 + at] = address;
-    columns[16896 + at] = phase;
+    columns[ADDRESSES_AT + at] = address;
+    columns[PHASES_AT + at] = phase;
     numbers[at] = number;
     lengths[at] = text.len;
     next_ring(ring)

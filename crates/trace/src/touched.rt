@@ -4,8 +4,9 @@ ghost use Prim.Native.Nat.{_≤_};
 ghost use lib.ListN.{length, take};
 ghost use Rattle.encoding.specs.Bytes.{member};
 ghost use Rattle.trace.specs.Touched.{placesOf, noteIn, touchIn};
+use control::BusTransfer;
 use encoding::contains;
-use tick::BusTransfer;
+use isa::MEMORY_WORDS;
 
 // Whether `a` stands among the first `n`.
 fn listed(items: &[u8], n: usize, a: u8) -> bool
@@ -16,10 +17,10 @@ fn listed(items: &[u8], n: usize, a: u8) -> bool
 }
 
 // The address `a` is added, once; 256 are all there are.
-fn touch_at(a: u8, items: &mut [u8; 256], n: usize) -> usize
+fn touch_at(a: u8, items: &mut [u8; MEMORY_WORDS], n: usize) -> usize
     ensures { λ r. ⌜ placesOf r (now (items .exit)) ≡ noteIn a (placesOf n (now (items .entry))) ⌝ }
 {
-    if 256 <= n {
+    if MEMORY_WORDS <= n {
         return n;
     }
     if listed(items, n, a) {
@@ -30,7 +31,7 @@ fn touch_at(a: u8, items: &mut [u8; 256], n: usize) -> usize
 }
 
 // The address of a bus write is added, once.
-pub fn touch(b: BusTransfer, items: &mut [u8; 256], n: usize) -> usize
+pub fn touch(b: BusTransfer, items: &mut [u8; MEMORY_WORDS], n: usize) -> usize
     ensures { λ r. ⌜ placesOf r (now (items .exit)) ≡ touchIn b (placesOf n (now (items .entry))) ⌝ }
 {
     match b {

@@ -12,8 +12,8 @@ use Rattle.isa.specs.declared.text.Text.{Text}
 use Rattle.isa.specs.Text.{text}
 use Rattle.disasm.specs.Disassembly.{disassembleText}
 use Rattle.plan.specs.declared.plan.TransferPlan.{TransferPlan}
-use Rattle.tick.specs.Count.{overCounted}
-use Rattle.tick.specs.Lawful.{lawful}
+use Rattle.control.specs.Count.{overCounted}
+use Rattle.control.specs.Lawful.{lawful}
 use Rattle.vm.specs.declared.machine.Machine.{Machine as Code}
 use Rattle.trace.specs.declared.records.TraceRecord.{TraceRecord}
 use Rattle.vm.specs.declared.transfer.Done.{Done}
@@ -25,7 +25,7 @@ use Rattle.vm.specs.Run.{run}
 use Rattle.vm.specs.View.{Parts, view, Fit}
 use Rattle.vm.specs.Refusal.{partsOk, stepRefusalIf, stepRefusal, Sizes}
 use Rattle.vm.specs.Calls.{answered, hasFault, opAfter, microOp, outcomeIf, reportOn, haltedTexts, haltedReport, instructionReport, runOutcome}
-use Rattle.tick.proofs.Lawfuls.{true-false, both}
+use Rattle.control.proofs.Lawfuls.{true-false, both}
 use Rattle.vm.proofs.Newest.{texts-of, trace-length, one-step, made, few}
 
 abbrev pub okOf : Parts → ℕ → Bool

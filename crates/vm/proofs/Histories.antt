@@ -9,10 +9,10 @@ use borrow.Author.Tests.{ltb-false, le-ltb, le-leb, eq-eqb, ne-eqb}
 use lib.Dec.{eqb, leb, ltb}
 use lib.ListN.{length, drop}
 use Rattle.encoding.specs.Bytes.{number}
-use Rattle.tick.specs.Lawful.{lawful}
-use Rattle.tick.proofs.Lawfuls.{both}
-use Rattle.tick.specs.declared.control.State.{State}
-use Rattle.tick.specs.declared.counters.Counters.{Counters}
+use Rattle.control.specs.Lawful.{lawful}
+use Rattle.control.proofs.Lawfuls.{both}
+use Rattle.control.specs.declared.control.State.{State}
+use Rattle.control.specs.declared.counters.Counters.{Counters}
 use Rattle.history.specs.declared.differing.Differences.{Differences}
 use Rattle.history.specs.declared.snapshot.Newest.{Newest}
 use Rattle.history.specs.declared.snapshot.Snapshot.{Snapshot}

@@ -9,7 +9,7 @@ use borrow.Author.Tests.{ltb-false, eqb-true}
 use lib.Dec.{eqb, ltb}
 use lib.ListN.{length, getD, replicate, length-replicate}
 use lib.Seq.{take-all}
-use Rattle.tick.proofs.Lawfuls.{both}
+use Rattle.control.proofs.Lawfuls.{both}
 use Rattle.trace.specs.Trace.{columnsLength}
 use Rattle.vm.specs.declared.machine.Machine.{Machine as Code}
 use Rattle.vm.specs.View.{Fit}

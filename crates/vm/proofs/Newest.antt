@@ -11,8 +11,9 @@ use borrow.Author.Tests.{lt-ltb, le-ltb}
 use lib.ListN.{length, getD, take, drop, set, length-append, length-drop, drop-of-length-le, List·getD-append, List·getD-eq-default}
 use lib.Seq.{take-suc, take-suc-set, getD-drop, getD-take, getD-append-add, drop-append-le, drop-drop}
 use Rattle.isa.specs.declared.text.Text.{Text}
-use Rattle.tick.specs.Lawful.{lawful}
-use Rattle.tick.proofs.Lawfuls.{Next, lawful-small, tick-next}
+use Rattle.control.specs.Lawful.{lawful}
+use Rattle.control.proofs.Lawfuls.{lawful-small}
+use Rattle.tick.proofs.Lawfuls.{Next, tick-next}
 use Rattle.trace.specs.declared.records.TraceRecord.{TraceRecord}
 use Rattle.trace.specs.Trace.{pushed, slots, turn, textAt, recordAt, liveTrace, liveTexts, newest}
 use Rattle.vm.specs.Machine.{Machine, operandsOf, nextText, nextDone, microStep}

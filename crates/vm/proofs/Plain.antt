@@ -9,14 +9,14 @@ use mathlib.Core.List.{List}
 use borrow.Author.Tests.{le-ltb, eqb-false}
 use lib.Dec.{eqb}
 use lib.ListN.{getD}
-use Rattle.tick.specs.declared.control.BusTransfer.{BusTransfer}
-use Rattle.tick.specs.declared.control.BusTransfer.the-variants.{Idle, Read, Write}
-use Rattle.tick.specs.declared.control.Fault.{Fault}
-use Rattle.tick.specs.declared.control.Fault.the-variants.{Healthy, UnknownInstruction, StepBudgetExhausted}
-use Rattle.tick.specs.declared.control.State.{State}
-use Rattle.tick.specs.declared.counters.Counters.{Counters}
-use Rattle.tick.specs.Count.{overCounted, oneMore, countTick}
-use Rattle.tick.proofs.Lawfuls.{true-false}
+use Rattle.control.specs.declared.control.BusTransfer.{BusTransfer}
+use Rattle.control.specs.declared.control.BusTransfer.the-variants.{Idle, Read, Write}
+use Rattle.control.specs.declared.control.Fault.{Fault}
+use Rattle.control.specs.declared.control.Fault.the-variants.{Healthy, UnknownInstruction, StepBudgetExhausted}
+use Rattle.control.specs.declared.control.State.{State}
+use Rattle.control.specs.declared.counters.Counters.{Counters}
+use Rattle.control.specs.Count.{overCounted, oneMore, countTick}
+use Rattle.control.proofs.Lawfuls.{true-false}
 use Rattle.guard.specs.declared.stops.GuardedStop.{GuardedStop}
 use Rattle.guard.specs.declared.stops.GuardedStop.the-variants.{Halted, Breakpoint, Fault as Faulted, Budget, HiddenWord, HiddenJump}
 use Rattle.guard.specs.declared.stops.RunStop.{RunStop}

@@ -8,11 +8,11 @@ use mathlib.Core.List.{List, []}
 use borrow.Author.Tests.{leb-true}
 use lib.Dec.{eqb, leb}
 use lib.ListN.{length}
-use Rattle.tick.specs.Lawful.{lawful}
+use Rattle.control.specs.Lawful.{lawful}
 use Rattle.vm.specs.declared.machine.Machine.{Machine as Code}
 use Rattle.vm.specs.Refusal.{partsOk, refusal}
 use Rattle.vm.specs.Calls.{isMachine, refusalOf, restarted, imageWords, serve, loaded, reset, clear, clearHistory}
-use Rattle.tick.proofs.Lawfuls.{both}
+use Rattle.control.proofs.Lawfuls.{both}
 use Rattle.vm.specs.History.{saved, undone}
 use Rattle.vm.proofs.Starts.{size-few, new-ok}
 use Rattle.vm.proofs.Histories.{saved-lasts, undone-lasts}

@@ -7,10 +7,10 @@ use mathlib.Core.Bool.{Bool, true, false, _&&_}
 use mathlib.Core.List.{List}
 use borrow.Author.Tests.{eqb-false}
 use lib.Dec.{eqb, leb}
-use Rattle.tick.specs.declared.control.Control.{Control}
-use Rattle.tick.specs.declared.control.State.{State}
-use Rattle.tick.specs.Count.{overCounted}
-use Rattle.tick.specs.Lawful.{lawful}
+use Rattle.control.specs.declared.control.Control.{Control}
+use Rattle.control.specs.declared.control.State.{State}
+use Rattle.control.specs.Count.{overCounted}
+use Rattle.control.specs.Lawful.{lawful}
 use Rattle.guard.specs.declared.stops.RunStop.{RunStop}
 use Rattle.guard.specs.declared.stops.RunStop.the-variants.{Halted, Breakpoint, Fault as Faulted, Budget, AlreadyHalted, Refused}
 use Rattle.guard.specs.Stops.{Verdict, go, stop, verdictIf, reached, after}

@@ -10,7 +10,7 @@ use lib.Dec.{ltb}
 use lib.ListN.{length, take, replicate}
 use lib.Seq.{take-all, length-take-le}
 use Rattle.isa.specs.Text.{padded}
-use Rattle.tick.specs.Lawful.{lawful}
+use Rattle.control.specs.Lawful.{lawful}
 use Rattle.vm.specs.declared.machine.Machine.{Machine as Code}
 use Rattle.vm.specs.declared.machine.Served.{Served}
 use Rattle.trace.specs.Trace.{liveLengths, shortTexts}

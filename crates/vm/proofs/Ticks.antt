@@ -16,13 +16,13 @@ use Rattle.isa.proofs.Texts.{length-padded}
 use Rattle.isa.specs.Word.{decodeWord}
 use Rattle.isa.specs.Format.{hex4, fill, fillByte}
 use Rattle.plan.specs.Plan.{executeTicks, fetchText, loadText, storeText, executeText, tickTemplate, tickText}
-use Rattle.tick.specs.declared.control.Control.{Control}
-use Rattle.tick.specs.declared.control.State.{State}
-use Rattle.tick.specs.declared.control.Operands.{Operands}
-use Rattle.tick.specs.declared.control.Tick.{Tick}
-use Rattle.tick.specs.declared.counters.Counters.{Counters}
+use Rattle.control.specs.declared.control.Control.{Control}
+use Rattle.control.specs.declared.control.State.{State}
+use Rattle.control.specs.declared.control.Operands.{Operands}
+use Rattle.control.specs.declared.control.Tick.{Tick}
+use Rattle.control.specs.declared.counters.Counters.{Counters}
 use Rattle.tick.specs.Tick.{withControl, plain, nextPc, haltingTick, toTick, decodeAs, decodeTick, executeTick, endedTick, laterTick, onward, tickOf}
-use Rattle.tick.specs.Count.{countTick}
+use Rattle.control.specs.Count.{countTick}
 use Rattle.trace.specs.declared.records.TraceRecord.{TraceRecord}
 use Rattle.trace.specs.Trace.{pushed}
 use Rattle.trace.specs.Touched.{touchedBy}

@@ -5,6 +5,7 @@ use mathlib.Core.Bool.{Bool, true, false, cond}
 use mathlib.Core.List.{List, [], _∷_, _++_}
 use lib.Dec.{eqb, ltb}
 use lib.ListN.{length, take, getD, replicate}
+use Rattle.isa.specs.Sizes.{memoryWords, registerCount}
 use Rattle.isa.specs.declared.digits.ByteOption.{ByteOption}
 use Rattle.isa.specs.declared.digits.ByteOption.the-variants.{Some, None}
 use Rattle.isa.specs.declared.text.Text.{Text}
@@ -14,12 +15,12 @@ use Rattle.disasm.specs.Disassembly.{disassembleText}
 use Rattle.plan.specs.declared.plan.Phase.the-variants.{Halt}
 use Rattle.plan.specs.declared.plan.TransferPlan.{TransferPlan}
 use Rattle.plan.specs.Plan.{phaseOf}
-use Rattle.tick.specs.declared.control.State.{State}
-use Rattle.tick.specs.declared.control.Fault.{Fault}
-use Rattle.tick.specs.declared.control.Fault.the-variants.{Healthy, UnknownInstruction, StepBudgetExhausted}
-use Rattle.tick.specs.declared.control.BusTransfer.the-variants.{Idle}
-use Rattle.tick.specs.declared.control.AluRecord.the-variants.{Unused}
-use Rattle.tick.specs.declared.control.RegisterWrite.the-variants.{Unwritten}
+use Rattle.control.specs.declared.control.State.{State}
+use Rattle.control.specs.declared.control.Fault.{Fault}
+use Rattle.control.specs.declared.control.Fault.the-variants.{Healthy, UnknownInstruction, StepBudgetExhausted}
+use Rattle.control.specs.declared.control.BusTransfer.the-variants.{Idle}
+use Rattle.control.specs.declared.control.AluRecord.the-variants.{Unused}
+use Rattle.control.specs.declared.control.RegisterWrite.the-variants.{Unwritten}
 use Rattle.vm.specs.declared.machine.Machine.{Machine as Code}
 use Rattle.vm.specs.declared.transfer.Core.{Core}
 use Rattle.vm.specs.declared.transfer.Done.{Done}
@@ -33,7 +34,7 @@ use Rattle.vm.specs.declared.readings.TextRead.{TextRead}
 use Rattle.vm.specs.declared.readings.PositionRead.{PositionRead}
 use Rattle.vm.specs.declared.readings.ImageRead.{ImageRead}
 use Rattle.guard.specs.declared.stops.RunStop.the-variants.{AlreadyHalted, Refused}
-use Rattle.trace.specs.Trace.{columnsLength}
+use Rattle.trace.specs.Trace.{columnsLength, traceLimit}
 use Rattle.vm.specs.Machine.{Machine, nextText, nextDone, microStep}
 use Rattle.vm.specs.Instruction.{stepInstruction, tickTexts, textsFrom}
 use Rattle.vm.specs.Run.{RunEnd, run}
@@ -77,7 +78,7 @@ stepRefusalOf m = stepRefusal (coreOf m) (m .«image_len») (m .touched) (m .len
 unfoldable pub restarted : List ℕ → ℕ → ℕ → Code
 restarted image n history = record {
   memory = image;
-  registers = replicate 16 0;
+  registers = replicate registerCount 0;
   state = record {
     control = record { pc = 0; ir = 0; mar = 0; mdr = 0; «instruction_address» = 0; tick = 0; «execute_ticks» = 0; halted = false };
     fault = Healthy;
@@ -86,11 +87,11 @@ restarted image n history = record {
   };
   counters = record { instructions = 0; «micro_operations» = 0; «bus_reads» = 0; «bus_writes» = 0 };
   columns = replicate columnsLength 0;
-  numbers = replicate 512 0;
-  lengths = replicate 512 0;
+  numbers = replicate traceLimit 0;
+  lengths = replicate traceLimit 0;
   «trace_start» = 0;
   «trace_len» = 0;
-  touched = replicate 256 0;
+  touched = replicate memoryWords 0;
   «touched_len» = 0;
   image = image;
   «image_len» = n;
@@ -99,11 +100,11 @@ restarted image n history = record {
 
 -- the first 256 words, zeros to the last address
 unfoldable pub imageWords : List ℕ → List ℕ
-imageWords image = take 256 image ++ replicate (256 - length image) 0
+imageWords image = take memoryWords image ++ replicate (memoryWords - length image) 0
 
 -- how many of them there are, by the image's length
 abbrev pub imageSize : ℕ → ℕ
-imageSize n = cond (ltb n 256) n 256
+imageSize n = cond (ltb n memoryWords) n memoryWords
 
 -- the new machine where the call is served, else the old one
 unfoldable pub serve : ℕ → Code → Code → Served
@@ -162,7 +163,7 @@ abbrev pub positionRead : ℕ → ByteOption → Code → PositionRead
 positionRead n p m = record { refused = n; position = cond (eqb n 0) p None; machine = m }
 
 abbrev pub imageRead : ℕ → Code → ImageRead
-imageRead n m = record { refused = n; words = cond (eqb n 0) (m .image) (replicate 256 0); len = cond (eqb n 0) (m .«image_len») 0; machine = m }
+imageRead n m = record { refused = n; words = cond (eqb n 0) (m .image) (replicate memoryWords 0); len = cond (eqb n 0) (m .«image_len») 0; machine = m }
 
 -- ---- `micro_step` and `step_instruction`
 

@@ -11,10 +11,10 @@ use Rattle.isa.specs.Text.{ascii, text}
 use Rattle.isa.specs.Opcode.{digits, decodeNibble}
 use Rattle.isa.specs.Format.{fill}
 use Rattle.plan.specs.Plan.{fetchText, loadText, executeText, tickTemplate, tickText}
-use Rattle.tick.specs.declared.control.Fault.{Fault}
-use Rattle.tick.specs.declared.control.Fault.the-variants.{Healthy, UnknownInstruction}
-use Rattle.tick.specs.declared.control.State.{State}
-use Rattle.tick.specs.Count.{countTick}
+use Rattle.control.specs.declared.control.Fault.{Fault}
+use Rattle.control.specs.declared.control.Fault.the-variants.{Healthy, UnknownInstruction}
+use Rattle.control.specs.declared.control.State.{State}
+use Rattle.control.specs.Count.{countTick}
 use Rattle.tick.specs.Tick.{decodeTick, right16, left16, executeTick, tickOf}
 use Rattle.encoding.specs.Bytes.{member}
 use Rattle.marks.specs.Marks.{marked, instructionMarks}

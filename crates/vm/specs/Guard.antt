@@ -5,6 +5,7 @@ use mathlib.Core.Bool.{Bool}
 use mathlib.Core.List.{List}
 use lib.Dec.{eqb}
 use lib.ListN.{length, getD, replicate}
+use Rattle.isa.specs.Sizes.{registerCount}
 use Rattle.guard.specs.declared.stops.GuardedStop.{GuardedStop}
 use Rattle.guard.specs.declared.stops.GuardedStop.the-variants.{Halted, Breakpoint, Fault as Faulted, Budget, HiddenWord, HiddenJump}
 use Rattle.marks.specs.Marks.{Marks, instructionMarks}
@@ -61,7 +62,7 @@ module _ (hid : ℕ → Bool) where
 
 -- the image loaded on a new machine; registers and MDR open
 unfoldable pub guardedStart : List ℕ → List ℕ → Guarded
-guardedStart image marks = record { machine = viewOf (restarted (imageWords image) (length image) 0); marks = record { memory = marks; registers = replicate 16 0; mdr = 0 } }
+guardedStart image marks = record { machine = viewOf (restarted (imageWords image) (length image) 0); marks = record { memory = marks; registers = replicate registerCount 0; mdr = 0 } }
 
 unfoldable pub guardedOf : (ℕ → Bool) → Input → GuardedEnd
 guardedOf hid i = guardedRun hid (i .breaks) 0 (i .budget) (guardedStart (i .image) (i .marks))

@@ -5,8 +5,8 @@ use mathlib.Core.Bool.{Bool, cond}
 use mathlib.Core.List.{List}
 use lib.Dec.{eqb}
 use lib.ListN.{length}
-use Rattle.tick.specs.declared.control.State.{State}
-use Rattle.tick.specs.declared.counters.Counters.{Counters}
+use Rattle.control.specs.declared.control.State.{State}
+use Rattle.control.specs.declared.counters.Counters.{Counters}
 use Rattle.history.specs.declared.differing.Differences.{Differences}
 use Rattle.history.specs.declared.snapshot.Snapshot.{Snapshot}
 use Rattle.history.specs.Store.{pushCount, pushStore, newest}

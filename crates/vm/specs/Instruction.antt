@@ -7,8 +7,8 @@ use lib.ListN.{length, getD}
 use Rattle.isa.specs.declared.text.Text.{Text}
 use Rattle.isa.specs.Text.{text}
 use Rattle.plan.specs.declared.plan.TransferPlan.{TransferPlan}
-use Rattle.tick.specs.declared.control.BusTransfer.the-variants.{Idle}
-use Rattle.tick.specs.declared.control.RegisterWrite.the-variants.{Unwritten}
+use Rattle.control.specs.declared.control.BusTransfer.the-variants.{Idle}
+use Rattle.control.specs.declared.control.RegisterWrite.the-variants.{Unwritten}
 use Rattle.vm.specs.declared.transfer.Done.{Done}
 use Rattle.vm.specs.Machine.{Machine, nextText, nextDone, microStep}
 

@@ -9,16 +9,16 @@ use Rattle.isa.specs.declared.text.Text.{Text}
 use Rattle.isa.specs.Text.{text}
 use Rattle.isa.specs.Word.{digitX, digitY, digitZ}
 use Rattle.plan.specs.Plan.{tickText}
-use Rattle.tick.specs.declared.control.State.{State}
-use Rattle.tick.specs.declared.control.Operands.{Operands}
-use Rattle.tick.specs.declared.control.Tick.{Tick}
-use Rattle.tick.specs.declared.control.BusTransfer.{BusTransfer}
-use Rattle.tick.specs.declared.control.BusTransfer.the-variants.{Idle, Read, Write}
-use Rattle.tick.specs.declared.control.RegisterWrite.{RegisterWrite}
-use Rattle.tick.specs.declared.control.RegisterWrite.the-variants.{Unwritten, Written}
-use Rattle.tick.specs.declared.counters.Counters.{Counters}
+use Rattle.control.specs.declared.control.State.{State}
+use Rattle.control.specs.declared.control.Operands.{Operands}
+use Rattle.control.specs.declared.control.Tick.{Tick}
+use Rattle.control.specs.declared.control.BusTransfer.{BusTransfer}
+use Rattle.control.specs.declared.control.BusTransfer.the-variants.{Idle, Read, Write}
+use Rattle.control.specs.declared.control.RegisterWrite.{RegisterWrite}
+use Rattle.control.specs.declared.control.RegisterWrite.the-variants.{Unwritten, Written}
+use Rattle.control.specs.declared.counters.Counters.{Counters}
 use Rattle.tick.specs.Tick.{tickOf}
-use Rattle.tick.specs.Count.{countTick}
+use Rattle.control.specs.Count.{countTick}
 use Rattle.trace.specs.declared.records.TraceRecord.{TraceRecord}
 use Rattle.vm.specs.declared.transfer.Done.{Done}
 use Rattle.trace.specs.Trace.{pushed}

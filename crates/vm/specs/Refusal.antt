@@ -6,10 +6,11 @@ use mathlib.Core.Bool.{Bool, cond, _&&_}
 use mathlib.Core.List.{List}
 use lib.Dec.{leb}
 use lib.ListN.{length, take, getD}
-use Rattle.tick.specs.Lawful.{lawful}
-use Rattle.tick.specs.Count.{overCounted}
+use Rattle.isa.specs.Sizes.{memoryWords}
+use Rattle.control.specs.Lawful.{lawful}
+use Rattle.control.specs.Count.{overCounted}
 use Rattle.vm.specs.declared.transfer.Core.{Core}
-use Rattle.trace.specs.Trace.{liveLengths, shortTexts, columnsLength}
+use Rattle.trace.specs.Trace.{liveLengths, shortTexts, columnsLength, traceLimit}
 use Rattle.trace.specs.Touched.{distinct}
 use Rattle.vm.specs.View.{Parts}
 
@@ -17,10 +18,10 @@ use Rattle.vm.specs.View.{Parts}
 unfoldable pub partsOk : Core → ℕ → List ℕ → List ℕ → Bool
 partsOk c n t l =
     lawful (c .state .control)
-    && (leb n 256
-    && (leb (c .«trace_len») 512
+    && (leb n memoryWords
+    && (leb (c .«trace_len») traceLimit
     && (shortTexts (liveLengths (c .«trace_start») (c .«trace_len») l)
-    && (leb (c .«touched_len») 256 && distinct (take (c .«touched_len») t)))))
+    && (leb (c .«touched_len») memoryWords && distinct (take (c .«touched_len») t)))))
 
 -- the refusal of a call on a machine, 0 where there is none: the parts, and the image's length
 unfoldable pub refusal : Core → ℕ → List ℕ → List ℕ → ℕ
@@ -35,8 +36,8 @@ stepRefusal c n t l = stepRefusalIf (partsOk c n t l) (c .state .control .halted
 
 -- how long the arrays are, which their types tell
 pub record Sizes (q : Parts) : Type 0 where
-  pub touched : length (q .touched) ≡ 256
+  pub touched : length (q .touched) ≡ memoryWords
   pub bytes : (i : ℕ) → getD (q .touched) i 0 < 256
   pub columns : length (q .columns) ≡ columnsLength
-  pub numbers : length (q .numbers) ≡ 512
-  pub lengths : length (q .lengths) ≡ 512
+  pub numbers : length (q .numbers) ≡ traceLimit
+  pub lengths : length (q .lengths) ≡ traceLimit

@@ -4,10 +4,10 @@ use Prim.Native.Nat.{ℕ, zero, suc, _+_}
 use mathlib.Core.Bool.{true}
 use mathlib.Core.List.{List}
 use lib.Dec.{eqb}
-use Rattle.tick.specs.declared.control.Control.{Control}
-use Rattle.tick.specs.declared.control.State.{State}
-use Rattle.tick.specs.declared.control.Fault.the-variants.{StepBudgetExhausted}
-use Rattle.tick.specs.Count.{overCounted}
+use Rattle.control.specs.declared.control.Control.{Control}
+use Rattle.control.specs.declared.control.State.{State}
+use Rattle.control.specs.declared.control.Fault.the-variants.{StepBudgetExhausted}
+use Rattle.control.specs.Count.{overCounted}
 use Rattle.guard.specs.declared.stops.RunStop.{RunStop}
 use Rattle.guard.specs.declared.stops.RunStop.the-variants.{Halted, Breakpoint, Fault as Faulted, Budget, AlreadyHalted, Refused}
 use Rattle.guard.specs.Stops.{Verdict, reached, verdictIf, after}

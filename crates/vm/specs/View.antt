@@ -5,7 +5,7 @@ use mathlib.Core.Path.{_≡_}
 use mathlib.Core.Bool.{true}
 use mathlib.Core.List.{List}
 use lib.ListN.{take}
-use Rattle.tick.specs.Lawful.{lawful}
+use Rattle.control.specs.Lawful.{lawful}
 use Rattle.guard.specs.declared.stops.RunStop.{RunStop}
 use Rattle.guard.specs.declared.stops.RunStop.the-variants.{Halted, Breakpoint, Fault, Budget, AlreadyHalted, Refused}
 use Rattle.trace.specs.declared.records.TraceRecord.{TraceRecord}

@@ -6,12 +6,14 @@ ghost use Rattle.trace.specs.Trace.{shortTexts, liveLengths};
 ghost use Rattle.trace.specs.Touched.{distinct};
 ghost use Rattle.vm.specs.Refusal.{partsOk, stepRefusal};
 use crate::transfer::Core;
-use tick::is_lawful;
-use tick::is_over_counted;
+use control::is_lawful;
+use control::is_over_counted;
+use isa::MEMORY_WORDS;
+use trace::TRACE_LIMIT;
 
 // No length from `from` up to `to` is over 32. There is no way out of the loop, so that the compiler
 // tests many at once.
-fn short_between(lengths: &[u8; 512], from: usize, to: usize) -> bool
+fn short_between(lengths: &[u8; TRACE_LIMIT], from: usize, to: usize) -> bool
     requires { ⌜ (from ≤ to) × (to ≤ 512) × (length (now lengths) ≡ 512) ⌝ }
     ensures { λ r. ⌜ r ≡ shortTexts (take (to - from) (drop from (now (lengths .entry)))) ⌝ }
 {
@@ -25,26 +27,26 @@ fn short_between(lengths: &[u8; 512], from: usize, to: usize) -> bool
 }
 
 // No live text is over 32 bytes.
-fn texts_short(start: usize, n: usize, lengths: &[u8; 512]) -> bool
+fn texts_short(start: usize, n: usize, lengths: &[u8; TRACE_LIMIT]) -> bool
     requires { ⌜ (n ≤ 512) × (length (now lengths) ≡ 512) ⌝ }
     ensures { λ r. ⌜ r ≡ shortTexts (liveLengths start n (now (lengths .entry))) ⌝ }
 {
-    let from = start % 512;
+    let from = start % TRACE_LIMIT;
     let end = from + n;
-    if end <= 512 {
+    if end <= TRACE_LIMIT {
         return short_between(lengths, from, end);
     }
-    let first = short_between(lengths, from, 512);
-    let second = short_between(lengths, 0, end - 512);
+    let first = short_between(lengths, from, TRACE_LIMIT);
+    let second = short_between(lengths, 0, end - TRACE_LIMIT);
     first & second
 }
 
 // No live address stands there twice.
-fn all_different(items: &[u8; 256], n: usize) -> bool
+fn all_different(items: &[u8; MEMORY_WORDS], n: usize) -> bool
     requires { ⌜ (n ≤ 256) × (length (now items) ≡ 256) × ((i : ℕ) → getD (now items) i 0 < 256) ⌝ }
     ensures { λ r. ⌜ r ≡ distinct (take n (now (items .entry))) ⌝ }
 {
-    let mut seen = [0u8; 256];
+    let mut seen = [0u8; MEMORY_WORDS];
     let mut i = 0;
     while i < n {
         let a = items[i] as usize;
@@ -58,7 +60,12 @@ fn all_different(items: &[u8; 256], n: usize) -> bool
 }
 
 // False where the parts are no machine: each call is refused 8.
-pub(crate) fn parts_ok(c: Core, size: usize, touched: &[u8; 256], lengths: &[u8; 512]) -> bool
+pub(crate) fn parts_ok(
+    c: Core,
+    size: usize,
+    touched: &[u8; MEMORY_WORDS],
+    lengths: &[u8; TRACE_LIMIT],
+) -> bool
     requires { ⌜ (length (now touched) ≡ 256) × (length (now lengths) ≡ 512) × ((i : ℕ) → getD (now touched) i 0 < 256) ⌝ }
     ensures { λ r. ⌜ r ≡ partsOk c size (now (touched .entry)) (now (lengths .entry)) ⌝ }
 {
@@ -68,24 +75,29 @@ pub(crate) fn parts_ok(c: Core, size: usize, touched: &[u8; 256], lengths: &[u8;
     if !good {
         return false;
     }
-    if 256 < size {
+    if MEMORY_WORDS < size {
         return false;
     }
-    if 512 < c.trace_len {
+    if TRACE_LIMIT < c.trace_len {
         return false;
     }
     let short = texts_short(c.trace_start, c.trace_len, lengths);
     if !short {
         return false;
     }
-    if 256 < c.touched_len {
+    if MEMORY_WORDS < c.touched_len {
         return false;
     }
     all_different(touched, c.touched_len)
 }
 
 // The refusal of a tick or an instruction, 0 where there is none.
-pub(crate) fn step_refusal(c: Core, size: usize, touched: &[u8; 256], lengths: &[u8; 512]) -> u8
+pub(crate) fn step_refusal(
+    c: Core,
+    size: usize,
+    touched: &[u8; MEMORY_WORDS],
+    lengths: &[u8; TRACE_LIMIT],
+) -> u8
     requires { ⌜ (length (now touched) ≡ 256) × (length (now lengths) ≡ 512) × ((i : ℕ) → getD (now touched) i 0 < 256) ⌝ }
     ensures { λ r. ⌜ r ≡ stepRefusal c size (now (touched .entry)) (now (lengths .entry)) ⌝ }
 {

@@ -23,8 +23,12 @@ use guard::GuardedStop;
 use guard::Verdict;
 use guard::guard_refusal;
 use guard::judge;
+use isa::MEMORY_WORDS;
+use isa::REGISTER_COUNT;
 use marks::Marks;
 use marks::mark_instruction;
+use trace::COLUMNS_LENGTH;
+use trace::TRACE_LIMIT;
 
 // Of the stops only a spent budget changes the machine.
 fn closed_core(stop: GuardedStop, core: Core) -> Core
@@ -52,14 +56,14 @@ fn guarded_parts(
     from: Core,
     budget: Begun,
     breakpoints: &[u8],
-    marks: &mut [u8; 256],
-    register_marks: &mut [u8; 16],
-    memory: &mut [u16; 256],
-    registers: &mut [u16; 16],
-    touched: &mut [u8; 256],
-    columns: &mut [u8; 17408],
-    numbers: &mut [u64; 512],
-    lengths: &mut [u8; 512],
+    marks: &mut [u8; MEMORY_WORDS],
+    register_marks: &mut [u8; REGISTER_COUNT],
+    memory: &mut [u16; MEMORY_WORDS],
+    registers: &mut [u16; REGISTER_COUNT],
+    touched: &mut [u8; MEMORY_WORDS],
+    columns: &mut [u8; COLUMNS_LENGTH],
+    numbers: &mut [u64; TRACE_LIMIT],
+    lengths: &mut [u8; TRACE_LIMIT],
 ) -> GuardedCore
     requires { ⌜ Fit (parts from (now memory) (now registers) (now touched) (now columns) (now numbers) (now lengths)) ⌝ }
     ensures { λ r. ⌜ (record { stop = r .stop; executed = r .executed .0; guarded = record { machine = view (parts (r .core) (now (memory .exit)) (now (registers .exit)) (now (touched .exit)) (now (columns .exit)) (now (numbers .exit)) (now (lengths .exit))); marks = record { memory = now (marks .exit); registers = now («register_marks» .exit); mdr = r .«mdr_mark» } } } ≡ guardedRun marked (now (breakpoints .entry)) 0 (budget .0) (record { machine = view (parts from (now (memory .entry)) (now (registers .entry)) (now (touched .entry)) (now (columns .entry)) (now (numbers .entry)) (now (lengths .entry))); marks = record { memory = now (marks .entry); registers = now («register_marks» .entry); mdr = 0 } })) × Fit (parts (r .core) (now (memory .exit)) (now (registers .exit)) (now (touched .exit)) (now (columns .exit)) (now (numbers .exit)) (now (lengths .exit))) ⌝ }
@@ -148,7 +152,7 @@ pub fn guarded_run(image: &[u16], marks: &[u8], budget: Begun, breakpoints: &[u8
     let mut lengths = new.lengths;
     let mut touched = new.touched;
     let mut word_marks = mark_words(marks);
-    let mut register_marks = [0u8; 16];
+    let mut register_marks = [0u8; REGISTER_COUNT];
     let given = allowed(refused, budget);
     let r = guarded_parts(
         core,

@@ -7,8 +7,12 @@ ghost use Rattle.vm.specs.View.{parts, view, Fit};
 use crate::transfer::Core;
 use crate::transfer::Done;
 use crate::transfer::tick_parts;
-use tick::BusTransfer;
-use tick::RegisterWrite;
+use control::BusTransfer;
+use control::RegisterWrite;
+use isa::MEMORY_WORDS;
+use isa::REGISTER_COUNT;
+use trace::COLUMNS_LENGTH;
+use trace::TRACE_LIMIT;
 
 // A number of ticks.
 pub struct Ticks(pub u64);
@@ -25,12 +29,12 @@ pub struct Stepped {
 pub(crate) fn instruction_parts(
     from: Core,
     limit: Ticks,
-    memory: &mut [u16; 256],
-    registers: &mut [u16; 16],
-    touched: &mut [u8; 256],
-    columns: &mut [u8; 17408],
-    numbers: &mut [u64; 512],
-    lengths: &mut [u8; 512],
+    memory: &mut [u16; MEMORY_WORDS],
+    registers: &mut [u16; REGISTER_COUNT],
+    touched: &mut [u8; MEMORY_WORDS],
+    columns: &mut [u8; COLUMNS_LENGTH],
+    numbers: &mut [u64; TRACE_LIMIT],
+    lengths: &mut [u8; TRACE_LIMIT],
 ) -> Stepped
     requires { ⌜ (1 ≤ limit .0) × (from .state .control .halted ≡ false) × Fit (parts from (now memory) (now registers) (now touched) (now columns) (now numbers) (now lengths)) ⌝ }
     ensures { λ r. ⌜ (record { machine = view (parts (r .core) (now (memory .exit)) (now (registers .exit)) (now (touched .exit)) (now (columns .exit)) (now (numbers .exit)) (now (lengths .exit))); ticks = r .ticks .0; done = r .done } ≡ steps (limit .0) (started (view (parts from (now (memory .entry)) (now (registers .entry)) (now (touched .entry)) (now (columns .entry)) (now (numbers .entry)) (now (lengths .entry)))))) × Fit (parts (r .core) (now (memory .exit)) (now (registers .exit)) (now (touched .exit)) (now (columns .exit)) (now (numbers .exit)) (now (lengths .exit))) × (r .halted ≡ r .core .state .control .halted) ⌝ }

@@ -4,29 +4,33 @@ ghost use mathlib.Core.List.{[]};
 ghost use Rattle.vm.specs.Calls.{coreOf, refusalOf, restarted, imageWords, imageSize, serve, loaded, reset, clear, clearHistory};
 use crate::check::parts_ok;
 use crate::transfer::Core;
-use tick::AluRecord;
-use tick::BusTransfer;
-use tick::Control;
-use tick::Counters;
-use tick::Fault;
-use tick::State;
+use control::AluRecord;
+use control::BusTransfer;
+use control::Control;
+use control::Counters;
+use control::Fault;
+use control::State;
+use isa::MEMORY_WORDS;
+use isa::REGISTER_COUNT;
+use trace::COLUMNS_LENGTH;
+use trace::TRACE_LIMIT;
 
 // All that the Rust's machine holds; of its history, the number of records. The trace is a ring: its
 // oldest record is in slot `trace_start` modulo 512. What stands past a count shows nowhere. A number
 // stands between two large arrays, so that the compiler copies each straight to its place.
 pub struct Machine {
-    pub touched: [u8; 256],
+    pub touched: [u8; MEMORY_WORDS],
     pub touched_len: usize,
-    pub lengths: [u8; 512],
+    pub lengths: [u8; TRACE_LIMIT],
     pub trace_len: usize,
-    pub columns: [u8; 17408],
+    pub columns: [u8; COLUMNS_LENGTH],
     pub trace_start: usize,
-    pub numbers: [u64; 512],
+    pub numbers: [u64; TRACE_LIMIT],
     pub image_len: usize,
-    pub memory: [u16; 256],
-    pub registers: [u16; 16],
+    pub memory: [u16; MEMORY_WORDS],
+    pub registers: [u16; REGISTER_COUNT],
     pub history_len: usize,
-    pub image: [u16; 256],
+    pub image: [u16; MEMORY_WORDS],
     pub state: State,
     pub counters: Counters,
 }
@@ -64,7 +68,11 @@ pub(crate) fn refusal_of(m: Machine) -> u8
 }
 
 // A machine that was just switched on with an image in memory.
-pub(crate) fn switched_on(image: [u16; 256], image_len: usize, history_len: usize) -> Machine
+pub(crate) fn switched_on(
+    image: [u16; MEMORY_WORDS],
+    image_len: usize,
+    history_len: usize,
+) -> Machine
     ensures { λ r. ⌜ r ≡ restarted image «image_len» «history_len» ⌝ }
 {
     let control = Control {
@@ -89,11 +97,11 @@ pub(crate) fn switched_on(image: [u16; 256], image_len: usize, history_len: usiz
         bus_reads: 0,
         bus_writes: 0,
     };
-    let registers = [0u16; 16];
-    let columns = [0u8; 17408];
-    let numbers = [0u64; 512];
-    let lengths = [0u8; 512];
-    let touched = [0u8; 256];
+    let registers = [0u16; REGISTER_COUNT];
+    let columns = [0u8; COLUMNS_LENGTH];
+    let numbers = [0u64; TRACE_LIMIT];
+    let lengths = [0u8; TRACE_LIMIT];
+    let touched = [0u8; MEMORY_WORDS];
     Machine {
         memory: image,
         registers,
@@ -113,12 +121,12 @@ pub(crate) fn switched_on(image: [u16; 256], image_len: usize, history_len: usiz
 }
 
 // The first 256 words, and zeros past them.
-pub(crate) fn image_words(image: &[u16]) -> [u16; 256]
+pub(crate) fn image_words(image: &[u16]) -> [u16; MEMORY_WORDS]
     ensures { λ r. ⌜ r ≡ imageWords (now (image .entry)) ⌝ }
 {
-    let mut words = [0u16; 256];
+    let mut words = [0u16; MEMORY_WORDS];
     let mut i = 0;
-    while i < 256 {
+    while i < MEMORY_WORDS {
         if i == image.len() {
             return words;
         }
@@ -129,12 +137,12 @@ pub(crate) fn image_words(image: &[u16]) -> [u16; 256]
 }
 
 // The marks of memory: the first 256, and open past them.
-pub(crate) fn mark_words(marks: &[u8]) -> [u8; 256]
+pub(crate) fn mark_words(marks: &[u8]) -> [u8; MEMORY_WORDS]
     ensures { λ r. ⌜ r ≡ imageWords (now (marks .entry)) ⌝ }
 {
-    let mut words = [0u8; 256];
+    let mut words = [0u8; MEMORY_WORDS];
     let mut i = 0;
-    while i < 256 {
+    while i < MEMORY_WORDS {
         if i == marks.len() {
             return words;
         }
@@ -148,7 +156,11 @@ pub(crate) fn mark_words(marks: &[u8]) -> [u8; 256]
 pub(crate) fn image_size(len: usize) -> usize
     ensures { λ r. ⌜ r ≡ imageSize len ⌝ }
 {
-    if len < 256 { len } else { 256 }
+    if len < MEMORY_WORDS {
+        len
+    } else {
+        MEMORY_WORDS
+    }
 }
 
 // The new machine where the call is served, else the old one.
@@ -172,7 +184,7 @@ impl Machine {
     pub fn new() -> Machine
         ensures { λ r. ⌜ r ≡ restarted (imageWords []) 0 0 ⌝ }
     {
-        let image = [0u16; 256];
+        let image = [0u16; MEMORY_WORDS];
         switched_on(image, 0, 0)
     }
 

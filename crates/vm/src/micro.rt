@@ -11,14 +11,18 @@ use crate::machine::Machine;
 use crate::texts::newest_text;
 use crate::transfer::Core;
 use crate::transfer::Done;
+use control::BusTransfer;
+use control::Fault;
+use control::RegisterWrite;
+use control::State;
+use isa::MEMORY_WORDS;
+use isa::REGISTER_COUNT;
 use isa::Text;
 use plan::Phase;
 use plan::phase_of;
-use tick::BusTransfer;
-use tick::Fault;
-use tick::RegisterWrite;
-use tick::State;
+use trace::COLUMNS_LENGTH;
 use trace::Ring;
+use trace::TRACE_LIMIT;
 
 // One register transfer, as it is reported.
 pub struct MicroOp {
@@ -97,12 +101,12 @@ fn op_after(tick: u8, state: State, done: Done, text: Text) -> MicroOp
 fn micro_parts(
     core: Core,
     size: usize,
-    memory: &mut [u16; 256],
-    registers: &mut [u16; 16],
-    touched: &mut [u8; 256],
-    columns: &mut [u8; 17408],
-    numbers: &mut [u64; 512],
-    lengths: &mut [u8; 512],
+    memory: &mut [u16; MEMORY_WORDS],
+    registers: &mut [u16; REGISTER_COUNT],
+    touched: &mut [u8; MEMORY_WORDS],
+    columns: &mut [u8; COLUMNS_LENGTH],
+    numbers: &mut [u64; TRACE_LIMIT],
+    lengths: &mut [u8; TRACE_LIMIT],
 ) -> MicroCore
     requires { ⌜ Sizes (parts core (now memory) (now registers) (now touched) (now columns) (now numbers) (now lengths)) ⌝ }
     ensures { λ r. ⌜ (answered (r .refused) (r .op) (view (parts (r .core) (now (memory .exit)) (now (registers .exit)) (now (touched .exit)) (now (columns .exit)) (now (numbers .exit)) (now (lengths .exit)))) ≡ microOutcome (stepRefusal core size (now (touched .entry)) (now (lengths .entry))) (view (parts core (now (memory .entry)) (now (registers .entry)) (now (touched .entry)) (now (columns .entry)) (now (numbers .entry)) (now (lengths .entry))))) × ((r .refused ≡ 0 → ⊥) → parts (r .core) (now (memory .exit)) (now (registers .exit)) (now (touched .exit)) (now (columns .exit)) (now (numbers .exit)) (now (lengths .exit)) ≡ parts core (now (memory .entry)) (now (registers .entry)) (now (touched .entry)) (now (columns .entry)) (now (numbers .entry)) (now (lengths .entry))) × (partsOk core size (now (touched .entry)) (now (lengths .entry)) ≡ true → partsOk (r .core) size (now (touched .exit)) (now (lengths .exit)) ≡ true) ⌝ }

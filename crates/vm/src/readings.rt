@@ -12,6 +12,7 @@ use crate::machine::refusal_of;
 use disasm::disassemble;
 use isa::ByteOption;
 use isa::Instruction;
+use isa::MEMORY_WORDS;
 use isa::Text;
 
 pub struct NumberRead {
@@ -48,7 +49,7 @@ pub struct PositionRead {
 pub struct ImageRead {
     pub machine: Machine,
     pub refused: u8,
-    pub words: [u16; 256],
+    pub words: [u16; MEMORY_WORDS],
     pub len: usize,
 }
 
@@ -112,7 +113,7 @@ impl Machine {
                 machine: self,
             };
         }
-        let words = [0u16; 256];
+        let words = [0u16; MEMORY_WORDS];
         ImageRead {
             refused,
             words,

@@ -12,9 +12,13 @@ use crate::micro::has_fault;
 use crate::texts::newest_texts;
 use crate::transfer::Core;
 use disasm::disassemble;
+use isa::MEMORY_WORDS;
+use isa::REGISTER_COUNT;
 use isa::Text;
 use plan::TransferPlan;
+use trace::COLUMNS_LENGTH;
 use trace::Ring;
+use trace::TRACE_LIMIT;
 
 // A summary of running one instruction to completion: the word at PC and its text, the texts of the
 // ticks that were made, and whether the last one halted or faulted.
@@ -60,12 +64,12 @@ fn halted_texts() -> TransferPlan
 fn step_parts(
     core: Core,
     size: usize,
-    memory: &mut [u16; 256],
-    registers: &mut [u16; 16],
-    touched: &mut [u8; 256],
-    columns: &mut [u8; 17408],
-    numbers: &mut [u64; 512],
-    lengths: &mut [u8; 512],
+    memory: &mut [u16; MEMORY_WORDS],
+    registers: &mut [u16; REGISTER_COUNT],
+    touched: &mut [u8; MEMORY_WORDS],
+    columns: &mut [u8; COLUMNS_LENGTH],
+    numbers: &mut [u64; TRACE_LIMIT],
+    lengths: &mut [u8; TRACE_LIMIT],
 ) -> InstructionCore
     requires { ⌜ Sizes (parts core (now memory) (now registers) (now touched) (now columns) (now numbers) (now lengths)) ⌝ }
     ensures { λ r. ⌜ (answered (r .refused) (r .report) (view (parts (r .core) (now (memory .exit)) (now (registers .exit)) (now (touched .exit)) (now (columns .exit)) (now (numbers .exit)) (now (lengths .exit)))) ≡ stepOutcome (stepRefusal core size (now (touched .entry)) (now (lengths .entry))) (view (parts core (now (memory .entry)) (now (registers .entry)) (now (touched .entry)) (now (columns .entry)) (now (numbers .entry)) (now (lengths .entry))))) × ((r .refused ≡ 0 → ⊥) → parts (r .core) (now (memory .exit)) (now (registers .exit)) (now (touched .exit)) (now (columns .exit)) (now (numbers .exit)) (now (lengths .exit)) ≡ parts core (now (memory .entry)) (now (registers .entry)) (now (touched .entry)) (now (columns .entry)) (now (numbers .entry)) (now (lengths .entry))) × (partsOk core size (now (touched .entry)) (now (lengths .entry)) ≡ true → partsOk (r .core) size (now (touched .exit)) (now (lengths .exit)) ≡ true) ⌝ }

@@ -10,11 +10,15 @@ use crate::instruction::Ticks;
 use crate::instruction::instruction_parts;
 use crate::machine::Machine;
 use crate::transfer::Core;
+use control::Fault;
+use control::State;
 use guard::RunStop;
 use guard::RunVerdict;
 use guard::run_verdict;
-use tick::Fault;
-use tick::State;
+use isa::MEMORY_WORDS;
+use isa::REGISTER_COUNT;
+use trace::COLUMNS_LENGTH;
+use trace::TRACE_LIMIT;
 
 // A number of instructions begun.
 pub struct Begun(pub u64);
@@ -72,12 +76,12 @@ pub(crate) fn run_parts(
     from: Core,
     budget: Begun,
     breakpoints: &[u8],
-    memory: &mut [u16; 256],
-    registers: &mut [u16; 16],
-    touched: &mut [u8; 256],
-    columns: &mut [u8; 17408],
-    numbers: &mut [u64; 512],
-    lengths: &mut [u8; 512],
+    memory: &mut [u16; MEMORY_WORDS],
+    registers: &mut [u16; REGISTER_COUNT],
+    touched: &mut [u8; MEMORY_WORDS],
+    columns: &mut [u8; COLUMNS_LENGTH],
+    numbers: &mut [u64; TRACE_LIMIT],
+    lengths: &mut [u8; TRACE_LIMIT],
 ) -> RanCore
     requires { ⌜ Fit (parts from (now memory) (now registers) (now touched) (now columns) (now numbers) (now lengths)) ⌝ }
     ensures { λ r. ⌜ (record { stop = r .stop; executed = r .executed .0; machine = view (parts (r .core) (now (memory .exit)) (now (registers .exit)) (now (touched .exit)) (now (columns .exit)) (now (numbers .exit)) (now (lengths .exit))) } ≡ run (now (breakpoints .entry)) 0 (budget .0) (view (parts from (now (memory .entry)) (now (registers .entry)) (now (touched .entry)) (now (columns .entry)) (now (numbers .entry)) (now (lengths .entry))))) × Fit (parts (r .core) (now (memory .exit)) (now (registers .exit)) (now (touched .exit)) (now (columns .exit)) (now (numbers .exit)) (now (lengths .exit))) ⌝ }
@@ -119,12 +123,12 @@ fn run_checked(
     size: usize,
     budget: Begun,
     breakpoints: &[u8],
-    memory: &mut [u16; 256],
-    registers: &mut [u16; 16],
-    touched: &mut [u8; 256],
-    columns: &mut [u8; 17408],
-    numbers: &mut [u64; 512],
-    lengths: &mut [u8; 512],
+    memory: &mut [u16; MEMORY_WORDS],
+    registers: &mut [u16; REGISTER_COUNT],
+    touched: &mut [u8; MEMORY_WORDS],
+    columns: &mut [u8; COLUMNS_LENGTH],
+    numbers: &mut [u64; TRACE_LIMIT],
+    lengths: &mut [u8; TRACE_LIMIT],
 ) -> RanCore
     requires { ⌜ Sizes (parts core (now memory) (now registers) (now touched) (now columns) (now numbers) (now lengths)) ⌝ }
     ensures { λ r. ⌜ (record { stop = r .stop; executed = r .executed .0; machine = view (parts (r .core) (now (memory .exit)) (now (registers .exit)) (now (touched .exit)) (now (columns .exit)) (now (numbers .exit)) (now (lengths .exit))) } ≡ runOutcome (partsOk core size (now (touched .entry)) (now (lengths .entry))) (now (breakpoints .entry)) (budget .0) (view (parts core (now (memory .entry)) (now (registers .entry)) (now (touched .entry)) (now (columns .entry)) (now (numbers .entry)) (now (lengths .entry))))) × (partsOk core size (now (touched .entry)) (now (lengths .entry)) ≡ false → parts (r .core) (now (memory .exit)) (now (registers .exit)) (now (touched .exit)) (now (columns .exit)) (now (numbers .exit)) (now (lengths .exit)) ≡ parts core (now (memory .entry)) (now (registers .entry)) (now (touched .entry)) (now (columns .entry)) (now (numbers .entry)) (now (lengths .entry))) × (partsOk core size (now (touched .entry)) (now (lengths .entry)) ≡ true → partsOk (r .core) size (now (touched .exit)) (now (lengths .exit)) ≡ true) ⌝ }

@@ -8,10 +8,12 @@ ghost use Rattle.vm.specs.Instruction.{textsFrom};
 ghost use Rattle.trace.specs.Trace.{textAt, liveTexts, newest, textsIn, columnsLength};
 use isa::Text;
 use plan::TransferPlan;
+use trace::COLUMNS_LENGTH;
 use trace::Ring;
+use trace::TRACE_LIMIT;
 
 // The text in slot `at`.
-fn text_at(at: usize, columns: &[u8; 17408], lengths: &[u8; 512]) -> Text
+fn text_at(at: usize, columns: &[u8; COLUMNS_LENGTH], lengths: &[u8; TRACE_LIMIT]) -> Text
     requires { ⌜ (at < 512) × (length (now columns) ≡ columnsLength) × (length (now lengths) ≡ 512) ⌝ }
     ensures { λ r. ⌜ r ≡ textAt (textsIn (now (columns .entry))) (now (lengths .entry)) at ⌝ }
 {
@@ -32,8 +34,8 @@ pub(crate) fn newest_text(
     ring: Ring,
     n: usize,
     i: usize,
-    columns: &[u8; 17408],
-    lengths: &[u8; 512],
+    columns: &[u8; COLUMNS_LENGTH],
+    lengths: &[u8; TRACE_LIMIT],
 ) -> Text
     requires { ⌜ (n ≤ ring .len) × (ring .len ≤ 512) × (length (now columns) ≡ columnsLength) × (length (now lengths) ≡ 512) ⌝ }
     ensures { λ r. ⌜ r ≡ getD (newest n (liveTexts (ring .start) (ring .len) (textsIn (now (columns .entry))) (now (lengths .entry)))) i (text []) ⌝ }
@@ -41,17 +43,17 @@ pub(crate) fn newest_text(
     if n <= i {
         return Text::from_bytes(b"");
     }
-    let from = ring.start % 512;
+    let from = ring.start % TRACE_LIMIT;
     let first = from + ring.len - n;
-    text_at((first + i) % 512, columns, lengths)
+    text_at((first + i) % TRACE_LIMIT, columns, lengths)
 }
 
 // The texts of the newest `n` records.
 pub(crate) fn newest_texts(
     ring: Ring,
     n: usize,
-    columns: &[u8; 17408],
-    lengths: &[u8; 512],
+    columns: &[u8; COLUMNS_LENGTH],
+    lengths: &[u8; TRACE_LIMIT],
 ) -> TransferPlan
     requires { ⌜ (n ≤ 7) × (n ≤ ring .len) × (ring .len ≤ 512) × (length (now columns) ≡ columnsLength) × (length (now lengths) ≡ 512) ⌝ }
     ensures { λ r. ⌜ r ≡ textsFrom (newest n (liveTexts (ring .start) (ring .len) (textsIn (now (columns .entry))) (now (lengths .entry)))) ⌝ }

@@ -4,15 +4,19 @@ ghost use mathlib.Core.Bool.{false, not, _&&_};
 ghost use Prim.Native.Nat.{_<_};
 ghost use Rattle.vm.specs.Machine.{operandsOf, registerOf, registersAfter, memoryAfter, phaseNumber, microStep, nextDone};
 ghost use Rattle.vm.specs.View.{parts, view, Fit};
+use control::BusTransfer;
+use control::Counters;
+use control::Operands;
+use control::RegisterWrite;
+use control::State;
+use control::count_tick;
+use isa::MEMORY_WORDS;
+use isa::REGISTER_COUNT;
 use plan::tick_text;
-use tick::BusTransfer;
-use tick::Counters;
-use tick::Operands;
-use tick::RegisterWrite;
-use tick::State;
-use tick::count_tick;
 use tick::tick_of;
+use trace::COLUMNS_LENGTH;
 use trace::Ring;
+use trace::TRACE_LIMIT;
 use trace::push_trace;
 use trace::touch;
 
@@ -37,7 +41,11 @@ pub struct Ticked {
     pub done: Done,
 }
 
-fn read_operands(s: State, memory: &[u16; 256], registers: &[u16; 16]) -> Operands
+fn read_operands(
+    s: State,
+    memory: &[u16; MEMORY_WORDS],
+    registers: &[u16; REGISTER_COUNT],
+) -> Operands
     ensures { λ r. ⌜ r ≡ operandsOf s (now (memory .entry)) (now (registers .entry)) ⌝ }
 {
     let w = s.control.ir;
@@ -54,7 +62,7 @@ fn read_operands(s: State, memory: &[u16; 256], registers: &[u16; 16]) -> Operan
     }
 }
 
-fn set_register(w: RegisterWrite, registers: &mut [u16; 16])
+fn set_register(w: RegisterWrite, registers: &mut [u16; REGISTER_COUNT])
     requires { ⌜ registerOf w < 16 ⌝ }
     ensures { λ r. ⌜ now (registers .exit) ≡ registersAfter w (now (registers .entry)) ⌝ }
 {
@@ -67,7 +75,7 @@ fn set_register(w: RegisterWrite, registers: &mut [u16; 16])
     }
 }
 
-fn set_word(b: BusTransfer, memory: &mut [u16; 256])
+fn set_word(b: BusTransfer, memory: &mut [u16; MEMORY_WORDS])
     ensures { λ r. ⌜ now (memory .exit) ≡ memoryAfter b (now (memory .entry)) ⌝ }
 {
     match b {
@@ -97,12 +105,12 @@ fn is_fault(halted: bool, completed: bool) -> bool
 // The next tick of a running machine.
 pub(crate) fn tick_parts(
     s: Core,
-    memory: &mut [u16; 256],
-    registers: &mut [u16; 16],
-    touched: &mut [u8; 256],
-    columns: &mut [u8; 17408],
-    numbers: &mut [u64; 512],
-    lengths: &mut [u8; 512],
+    memory: &mut [u16; MEMORY_WORDS],
+    registers: &mut [u16; REGISTER_COUNT],
+    touched: &mut [u8; MEMORY_WORDS],
+    columns: &mut [u8; COLUMNS_LENGTH],
+    numbers: &mut [u64; TRACE_LIMIT],
+    lengths: &mut [u8; TRACE_LIMIT],
 ) -> Ticked
     requires { ⌜ (s .state .control .halted ≡ false) × Fit (parts s (now memory) (now registers) (now touched) (now columns) (now numbers) (now lengths)) ⌝ }
     ensures { λ r. ⌜ (view (parts (r .core) (now (memory .exit)) (now (registers .exit)) (now (touched .exit)) (now (columns .exit)) (now (numbers .exit)) (now (lengths .exit))) ≡ microStep (view (parts s (now (memory .entry)) (now (registers .entry)) (now (touched .entry)) (now (columns .entry)) (now (numbers .entry)) (now (lengths .entry))))) × (r .done ≡ nextDone (view (parts s (now (memory .entry)) (now (registers .entry)) (now (touched .entry)) (now (columns .entry)) (now (numbers .entry)) (now (lengths .entry))))) × Fit (parts (r .core) (now (memory .exit)) (now (registers .exit)) (now (touched .exit)) (now (columns .exit)) (now (numbers .exit)) (now (lengths .exit))) × ((r .core .state .control .tick ≡ 0 → ⊥) → r .core .state .control .halted ≡ false) ⌝ }

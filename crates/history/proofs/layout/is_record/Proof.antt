@@ -6,7 +6,7 @@ use borrow.Author.Tests.{le-leb, lt-leb}
 use lib.Dec.{leb}
 use lib.ListN.{drop}
 use Rattle.encoding.specs.Bytes.{number}
-use Rattle.tick.specs.Lawful.{lawful}
+use Rattle.control.specs.Lawful.{lawful}
 use Rattle.history.specs.Record.{isRecord}
 use borrow.Author.Needs.{needs}
 use Rattle.history.proofs.layout.is_record.Statement.{statement}

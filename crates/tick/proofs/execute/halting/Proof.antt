@@ -1,10 +1,10 @@
 -- Assumes nothing.
 use mathlib.Core.Bool.{true}
 use mathlib.Core.Path.{ap}
-use Rattle.tick.specs.declared.control.State.{State}
-use Rattle.tick.specs.declared.control.Tick.{Tick}
-use Rattle.tick.specs.declared.control.BusTransfer.the-variants.{Idle}
-use Rattle.tick.specs.declared.control.RegisterWrite.the-variants.{Unwritten}
+use Rattle.control.specs.declared.control.State.{State}
+use Rattle.control.specs.declared.control.Tick.{Tick}
+use Rattle.control.specs.declared.control.BusTransfer.the-variants.{Idle}
+use Rattle.control.specs.declared.control.RegisterWrite.the-variants.{Unwritten}
 use borrow.Author.Needs.{needs}
 use Rattle.tick.proofs.execute.halting.Statement.{statement}
 use Rattle.tick.proofs.execute.halting.Tie as tie

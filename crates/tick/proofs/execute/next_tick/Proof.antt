@@ -2,8 +2,8 @@
 use mathlib.Core.Bool.{true, false}
 use mathlib.Core.Path.{ap}
 use borrow.Author.Tests.{le-leb, lt-leb}
-use Rattle.tick.specs.declared.control.State.{State}
-use Rattle.tick.specs.declared.control.Tick.{Tick}
+use Rattle.control.specs.declared.control.State.{State}
+use Rattle.control.specs.declared.control.Tick.{Tick}
 use borrow.Author.Needs.{needs}
 use Rattle.tick.proofs.execute.next_tick.Statement.{statement}
 use Rattle.tick.proofs.execute.next_tick.Tie as tie

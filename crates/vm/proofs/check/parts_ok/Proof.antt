@@ -9,7 +9,7 @@ use borrow.Author.Tests.{lt-leb, le-leb, not-true, not-false}
 use denote.Ref.{now}
 use lib.Dec.{leb}
 use lib.ListN.{take}
-use Rattle.tick.specs.Lawful.{lawful}
+use Rattle.control.specs.Lawful.{lawful}
 use Rattle.vm.specs.declared.transfer.Core.{Core}
 use Rattle.trace.specs.Trace.{liveLengths, shortTexts}
 use Rattle.trace.specs.Touched.{distinct}

@@ -7,7 +7,7 @@ use mathlib.Core.List.{List}
 use borrow.Author.Needs.{needs}
 use borrow.Author.Tests.{not-true, not-false}
 use denote.Ref.{now}
-use Rattle.tick.specs.Count.{overCounted}
+use Rattle.control.specs.Count.{overCounted}
 use Rattle.vm.specs.declared.transfer.Core.{Core}
 use Rattle.vm.specs.Refusal.{partsOk, stepRefusal, stepRefusalIf}
 use Rattle.vm.proofs.check.step_refusal.Statement.{statement}

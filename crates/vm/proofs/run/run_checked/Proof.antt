@@ -2,7 +2,7 @@ use mathlib.Core.Path.{refl, sym, _∙_}
 use denote.Ref.{now}
 use borrow.Author.Tests.{not-true, not-false}
 use Rattle.vm.specs.View.{parts, view}
-use Rattle.tick.proofs.Lawfuls.{true-false}
+use Rattle.control.proofs.Lawfuls.{true-false}
 use Rattle.vm.proofs.Fits.{fit, lasts, run-refused, run-halted, run-served}
 use Rattle.vm.proofs.run.run_checked.Statement.{statement}
 use Rattle.vm.proofs.run.run_checked.Tie as tie

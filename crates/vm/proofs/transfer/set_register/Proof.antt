@@ -1,4 +1,4 @@
-use Rattle.tick.specs.declared.control.RegisterWrite.{RegisterWrite}
+use Rattle.control.specs.declared.control.RegisterWrite.{RegisterWrite}
 use Rattle.vm.specs.Machine.{registerOf, registersAfter}
 use Prim.Native.Nat.{_-_}
 use native.Mathlib.Omega.{arith}

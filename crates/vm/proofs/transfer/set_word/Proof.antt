@@ -1,4 +1,4 @@
-use Rattle.tick.specs.declared.control.BusTransfer.{BusTransfer}
+use Rattle.control.specs.declared.control.BusTransfer.{BusTransfer}
 use Rattle.vm.specs.Machine.{memoryAfter}
 use Prim.Native.Nat.{_-_}
 use mathlib.Core.Path.{ap, sym}

@@ -3,8 +3,8 @@ use mathlib.Core.Path.{ap, _∙_}
 use denote.Ref.{now}
 use lib.Dec.{eqb}
 use borrow.Author.Needs.{needs}
-use Rattle.tick.specs.declared.control.Tick.{Tick}
-use Rattle.tick.specs.Lawful.{lawful}
+use Rattle.control.specs.declared.control.Tick.{Tick}
+use Rattle.control.specs.Lawful.{lawful}
 use Rattle.tick.proofs.Lawfuls.{tick-next}
 use Rattle.vm.specs.View.{parts, view}
 use Rattle.trace.specs.Trace.{arraysOf}

@@ -5,9 +5,9 @@ use native.Mathlib.Omega.{arith}
 use mathlib.Core.Path.{_≡_}
 use mathlib.Core.Bool.{Bool, cond}
 use borrow.Author.Tests.{le-ltb}
-use Rattle.tick.specs.declared.control.BusTransfer.{BusTransfer}
-use Rattle.tick.specs.declared.counters.Counters.{Counters}
-use Rattle.tick.specs.Count.{far, overCounted, oneMore, countTransfer, countTick}
+use Rattle.control.specs.declared.control.BusTransfer.{BusTransfer}
+use Rattle.control.specs.declared.counters.Counters.{Counters}
+use Rattle.control.specs.Count.{far, overCounted, oneMore, countTransfer, countTick}
 
 -- a machine that is not refused 9 counts exactly
 pub one-more : (n : ℕ) → n ≤ 18446744073709551600 → oneMore n ≡ n + 1

@@ -1,8 +1,8 @@
 -- Assumes nothing.
-use Rattle.tick.proofs.Counts.{worked}
+use Rattle.control.proofs.Counts.{worked}
 use borrow.Author.Needs.{needs}
-use Rattle.tick.proofs.counters.count_tick.Statement.{statement}
-use Rattle.tick.proofs.counters.count_tick.Tie as tie
+use Rattle.control.proofs.counters.count_tick.Statement.{statement}
+use Rattle.control.proofs.counters.count_tick.Tie as tie
 
 count-transfer-requires : tie.Need-count-transfer-requires
 count-transfer-requires c κs = search needs

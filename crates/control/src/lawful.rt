@@ -1,6 +1,6 @@
 // Which states of the control unit a machine can be in.
 ghost use mathlib.Core.Path.{_≡_};
-ghost use Rattle.tick.specs.Lawful.{lawful};
+ghost use Rattle.control.specs.Lawful.{lawful};
 use crate::control::Control;
 use isa::Instruction;
 use plan::execute_tick_count;

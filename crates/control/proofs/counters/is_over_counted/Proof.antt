@@ -1,9 +1,9 @@
 -- Assumes nothing.
 use borrow.Author.Tests.{lt-ltb, le-ltb}
-use Rattle.tick.specs.Count.{overCounted}
-use Rattle.tick.proofs.Counts.{last-far}
-use Rattle.tick.proofs.counters.is_over_counted.Statement.{statement}
-use Rattle.tick.proofs.counters.is_over_counted.Tie as tie
+use Rattle.control.specs.Count.{overCounted}
+use Rattle.control.proofs.Counts.{last-far}
+use Rattle.control.proofs.counters.is_over_counted.Statement.{statement}
+use Rattle.control.proofs.counters.is_over_counted.Tie as tie
 
 returns : tie.Need-returns
 unfolding overCounted

@@ -1,7 +1,7 @@
 // What one tick reads and leaves, by value.
 ghost use mathlib.Core.Path.{_≡_};
 ghost use Rattle.isa.specs.Text.{ascii, text};
-ghost use Rattle.tick.specs.Tick.{operationName};
+ghost use Rattle.control.specs.Operation.{operationName};
 use isa::Text;
 
 // The fault that stopped the machine, if any: the Rust's Option<Fault>.

@@ -1,7 +1,7 @@
 -- Assumes nothing.
 use borrow.Author.Needs.{needs}
-use Rattle.tick.proofs.counters.count_transfer.Statement.{statement}
-use Rattle.tick.proofs.counters.count_transfer.Tie as tie
+use Rattle.control.proofs.counters.count_transfer.Statement.{statement}
+use Rattle.control.proofs.counters.count_transfer.Tie as tie
 
 enum-told : tie.Need-enum-told
 enum-told c = search needs

@@ -1,7 +1,10 @@
 // The four counters of a machine.
 ghost use mathlib.Core.Path.{_≡_};
-ghost use Rattle.tick.specs.Count.{overCounted, countTransfer, countTick};
+ghost use Rattle.control.specs.Count.{overCounted, countTransfer, countTick};
 use crate::control::BusTransfer;
+
+// A running machine counts no further than this.
+pub const COUNTER_LIMIT: u64 = 18446744073709551600;
 
 pub struct Counters {
     pub instructions: u64,
@@ -14,16 +17,16 @@ pub struct Counters {
 pub fn is_over_counted(k: Counters) -> bool
     ensures { λ r. ⌜ r ≡ overCounted k ⌝ }
 {
-    if 18446744073709551600 < k.instructions {
+    if COUNTER_LIMIT < k.instructions {
         return true;
     }
-    if 18446744073709551600 < k.micro_operations {
+    if COUNTER_LIMIT < k.micro_operations {
         return true;
     }
-    if 18446744073709551600 < k.bus_reads {
+    if COUNTER_LIMIT < k.bus_reads {
         return true;
     }
-    18446744073709551600 < k.bus_writes
+    COUNTER_LIMIT < k.bus_writes
 }
 
 // With one transfer more over the bus, if there was one.

@@ -4,11 +4,11 @@ use borrow.Author.Tests.{lt-ltb, lt-leb, le-leb}
 use Rattle.isa.specs.Word.{decodeWord}
 use Rattle.isa.proofs.Words.{read-off}
 use Rattle.plan.specs.Plan.{executeTicks}
-use Rattle.tick.specs.Lawful.{lawful}
-use Rattle.tick.proofs.Lawfuls.{late-same, late-other}
+use Rattle.control.specs.Lawful.{lawful}
+use Rattle.control.proofs.Lawfuls.{late-same, late-other}
 use borrow.Author.Needs.{needs}
-use Rattle.tick.proofs.lawful.is_lawful.Statement.{statement}
-use Rattle.tick.proofs.lawful.is_lawful.Tie as tie
+use Rattle.control.proofs.lawful.is_lawful.Statement.{statement}
+use Rattle.control.proofs.lawful.is_lawful.Tie as tie
 
 returns : tie.Need-returns
 unfolding lawful

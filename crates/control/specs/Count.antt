@@ -3,12 +3,16 @@
 use Prim.Native.Nat.{ℕ, _+_, _%_, _^_}
 use mathlib.Core.Bool.{Bool, cond, _||_}
 use lib.Dec.{ltb}
-use Rattle.tick.specs.declared.control.BusTransfer.{BusTransfer}
-use Rattle.tick.specs.declared.control.BusTransfer.the-variants.{Idle, Read, Write}
-use Rattle.tick.specs.declared.counters.Counters.{Counters}
+use Rattle.control.specs.declared.control.BusTransfer.{BusTransfer}
+use Rattle.control.specs.declared.control.BusTransfer.the-variants.{Idle, Read, Write}
+use Rattle.control.specs.declared.counters.Counters.{Counters}
+
+-- a running machine counts no further than this
+abbrev pub counterLimit : ℕ
+counterLimit = 18446744073709551600
 
 abbrev pub far : ℕ → Bool
-far n = ltb 18446744073709551600 n
+far n = ltb counterLimit n
 
 -- one of them is near its end
 unfoldable pub overCounted : Counters → Bool

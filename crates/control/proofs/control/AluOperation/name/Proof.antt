@@ -1,11 +1,11 @@
 -- Assumes nothing.
 use mathlib.Core.Path.{sym, ap, _∙_}
-use Rattle.tick.specs.declared.control.AluOperation.{AluOperation}
+use Rattle.control.specs.declared.control.AluOperation.{AluOperation}
 use Rattle.isa.specs.Text.{ascii, text}
-use Rattle.tick.specs.Tick.{operationName}
+use Rattle.control.specs.Operation.{operationName}
 use borrow.Author.Needs.{needs}
-use Rattle.tick.proofs.control.AluOperation.name.Statement.{statement}
-use Rattle.tick.proofs.control.AluOperation.name.Tie as tie
+use Rattle.control.proofs.control.AluOperation.name.Statement.{statement}
+use Rattle.control.proofs.control.AluOperation.name.Tie as tie
 
 enum-told : tie.Need-enum-told
 enum-told c = search needs

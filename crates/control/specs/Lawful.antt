@@ -5,7 +5,7 @@ use mathlib.Core.Bool.{Bool, true, cond, _&&_}
 use lib.Dec.{eqb, leb, ltb}
 use Rattle.isa.specs.Word.{decodeWord}
 use Rattle.plan.specs.Plan.{executeTicks}
-use Rattle.tick.specs.declared.control.Control.{Control}
+use Rattle.control.specs.declared.control.Control.{Control}
 
 -- the tick is at most 6; and if the machine runs and executes, the number of execute ticks is that of IR's opcode, and the tick is one of them
 unfoldable pub lawful : Control → Bool

@@ -1,0 +1,3 @@
+pub mod Operation
+pub mod Lawful
+pub mod Count

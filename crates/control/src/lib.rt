@@ -1,0 +1,20 @@
+// What one tick reads and leaves, by value; how it counts; and which states of the control unit a machine
+// can be in: what every layer above speaks of, and no tick itself.
+mod control;
+mod counters;
+mod lawful;
+
+pub use control::AluOperation;
+pub use control::AluRecord;
+pub use control::BusTransfer;
+pub use control::Control;
+pub use control::Fault;
+pub use control::Operands;
+pub use control::RegisterWrite;
+pub use control::State;
+pub use control::Tick;
+pub use control::WordOption;
+pub use counters::Counters;
+pub use counters::count_tick;
+pub use counters::is_over_counted;
+pub use lawful::is_lawful;
