@@ -1,7 +1,7 @@
 -- Marks (01, section 5): which words of memory, which registers, and whether MDR are hidden, and how an instruction moves them.
 -- Assumes nothing.
 use Prim.Native.Nat.{ℕ, max}
-use mathlib.Core.Bool.{Bool, true, false, not}
+use mathlib.Core.Bool.{Bool, true, false, cond, not}
 use mathlib.Core.List.{List}
 use lib.Dec.{eqb}
 use lib.ListN.{getD, set}
@@ -20,6 +20,10 @@ pub record Marks : Type 0 where
 -- the marks that hide
 abbrev pub marked : ℕ → Bool
 marked n = not (eqb n 0)
+
+-- a hidden value is written 0 (section 6): which marks hide, mark, value
+unfoldable pub shown : (ℕ → Bool) → ℕ → ℕ → ℕ
+shown hid m v = cond (hid m) 0 v
 
 -- marked if either is
 abbrev pub joined : ℕ → ℕ → ℕ

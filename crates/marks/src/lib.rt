@@ -1,7 +1,7 @@
 // Marks: which words and registers are hidden, and how an instruction moves that. A mark of 0 is open.
 ghost use mathlib.Core.Path.{_≡_};
 ghost use mathlib.Core.Bool.{cond};
-ghost use Rattle.marks.specs.Marks.{joined, moves, instructionMarks};
+ghost use Rattle.marks.specs.Marks.{marked, shown, joined, moves, instructionMarks};
 use isa::Decoded;
 use isa::Instruction;
 use isa::MEMORY_WORDS;
@@ -17,6 +17,13 @@ pub struct Marks {
 // What an instruction leaves: whether y is the register that gets a mark, or x; that mark; that of the
 // word at yz; and MDR's. Where it moves none, a mark is its own again: so every instruction is made alike.
 pub struct Moved(pub bool, pub u8, pub u8, pub u8);
+
+// The value that a report shows: 0 for one that is marked.
+pub fn shown_value(mark: u8, value: u16) -> u16
+    ensures { λ r. ⌜ r ≡ shown marked mark value ⌝ }
+{
+    if mark == 0 { value } else { 0 }
+}
 
 // The mark of what comes from two sources.
 fn join(a: u8, b: u8) -> u8

@@ -7,11 +7,11 @@ use mathlib.Core.Bool.{Bool}
 use mathlib.Core.List.{List, _∷_, _++_}
 use lib.ListN.{length, getD, replicate}
 use Rattle.vm.specs.Calls.{restarted, imageWords}
-use Rattle.marks.specs.Marks.{Marks}
+use Rattle.marks.specs.Marks.{Marks, shown}
 use Rattle.vm.specs.Guard.{GuardedEnd, guardedStart}
 use Rattle.guard.specs.Stops.{stopNumber}
 use Rattle.report.proofs.Levels.{Twin, Twins, Public, publicOf, Level, LevelEnd}
-use Rattle.report.specs.Report.{traceRecords, byteRecords, controlBytes, countBytes, faultBytes, shown, valueRecord, startRecord, startRecords, valueRecords, endRecord, endRecords, endBytes}
+use Rattle.report.specs.Report.{traceRecords, byteRecords, controlBytes, countBytes, faultBytes, valueRecord, startRecord, startRecords, valueRecords, endRecord, endRecords, endBytes}
 use Rattle.report.proofs.Twins.{twin-refl, twins-get, twins-of}
 use Rattle.report.proofs.Cut.{each-same}
 use Rattle.report.proofs.Shows.{shown-same, value-same, start-same}

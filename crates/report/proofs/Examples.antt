@@ -12,10 +12,10 @@ use Rattle.trace.specs.Trace.{pushed, liveTrace}
 use Rattle.vm.specs.Machine.{microStep}
 use Rattle.vm.specs.Instruction.{ticked, steps, stepInstruction}
 use Rattle.vm.specs.Calls.{restarted, imageWords}
-use Rattle.marks.specs.Marks.{marked}
+use Rattle.marks.specs.Marks.{marked, shown}
 use Rattle.vm.specs.Guard.{guardedStart, guardedRun, guardedOf}
 use Rattle.guard.specs.Input.{Input, zeroOne, inputRefusal}
-use Rattle.report.specs.Report.{endRecord, controlBytes, countBytes, faultBytes, shown, reportBytes}
+use Rattle.report.specs.Report.{endRecord, controlBytes, countBytes, faultBytes, reportBytes}
 use Rattle.report.specs.Public.{reportLimit, reportRefusal}
 use Rattle.report.proofs.Lengths.{length-report}
 

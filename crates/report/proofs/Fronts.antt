@@ -8,7 +8,8 @@ use mathlib.Core.List.{List, [], _++_}
 use lib.ListN.{length, getD}
 use lib.Seq.{ext-getD}
 use Rattle.encoding.specs.Bytes.{bigEndian, eachFrom}
-use Rattle.report.specs.Report.{headRecord, byteRecord, byteRecords, shown, startRecord, startRecords}
+use Rattle.marks.specs.Marks.{shown}
+use Rattle.report.specs.Report.{headRecord, byteRecord, byteRecords, startRecord, startRecords}
 use Rattle.report.proofs.Cut.{append-cut, number-cut, row-cut}
 use Rattle.report.proofs.Shows.{length-head, length-byte, length-start, start-cut}
 

@@ -16,20 +16,10 @@ use Rattle.disasm.proofs.Texts.{disassembly-padded}
 use Rattle.control.specs.declared.counters.Counters.{Counters}
 use Rattle.control.specs.declared.control.Fault.{Fault}
 use Rattle.control.specs.declared.control.Fault.the-variants.{Healthy, UnknownInstruction, StepBudgetExhausted}
-use Rattle.marks.specs.Marks.{marked}
+use Rattle.marks.specs.Marks.{marked, shown}
 use Rattle.report.proofs.Levels.{Twin}
-use Rattle.report.specs.Report.{headRecord, byteRecord, shown, shownText, valueRecord, startRecord, faultBytes, countBytes, controlBytes}
+use Rattle.report.specs.Report.{headRecord, byteRecord, shownText, valueRecord, startRecord, faultBytes, countBytes, controlBytes}
 use Rattle.report.proofs.Cut.{append-cut, number-same}
-
--- ---- by the mark, as the code tests it
-
-pub shown-open : (m v : ℕ) → m ≡ 0 → v ≡ shown marked m v
-unfolding shown
-shown-open m v e = rw (eq-eqb m 0 e)
-
-pub shown-marked : (m v : ℕ) → (m ≡ 0 → ⊥) → 0 ≡ shown marked m v
-unfolding shown
-shown-marked m v h = rw (ne-eqb m 0 h)
 
 -- ---- lengths
 

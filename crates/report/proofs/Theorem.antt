@@ -8,12 +8,12 @@ use lib.ListN.{length, getD, replicate}
 use lib.Seq.{ext-getD}
 use Rattle.encoding.specs.Bytes.{bigEndian, number, readNumber}
 use Rattle.vm.specs.Calls.{imageWords}
-use Rattle.marks.specs.Marks.{marked}
+use Rattle.marks.specs.Marks.{marked, shown}
 use Rattle.vm.specs.Guard.{guardedStart, guardedRun, guardedOf}
 use Rattle.guard.specs.Input.{Input, zeroOne, inputRefusal}
 use Rattle.report.proofs.Levels.{Twin, Level}
 use Rattle.report.proofs.Runs.{run-same}
-use Rattle.report.specs.Report.{shown, endBytes, reportOn, reportBytes}
+use Rattle.report.specs.Report.{endBytes, reportOn, reportBytes}
 use Rattle.report.specs.Public.{reportLimit, reportRefusal, SamePublic}
 use Rattle.report.specs.Outcome.{reportOutcome, reportIn}
 use Rattle.report.specs.Program.{inputOf, firstRefusal, bytesRefusal}

@@ -15,7 +15,7 @@ use Rattle.history.specs.Record.{codeOf}
 use Rattle.trace.specs.declared.records.TraceRecord.{TraceRecord}
 use Rattle.vm.specs.Machine.{Machine}
 use Rattle.vm.specs.Calls.{imageWords}
-use Rattle.marks.specs.Marks.{Marks}
+use Rattle.marks.specs.Marks.{Marks, shown}
 use Rattle.vm.specs.Guard.{GuardedEnd, guardedOf}
 use Rattle.guard.specs.Input.{Input}
 use Rattle.guard.specs.Stops.{stopNumber}
@@ -25,17 +25,13 @@ unfoldable pub headRecord : ℕ → ℕ → ℕ → List ℕ
 headRecord len budget count = 1 ∷ (bigEndian 2 len ++ (bigEndian 8 budget ++ bigEndian 2 count))
 
 module _ (hid : ℕ → Bool) where
-  -- a hidden value is written 0: mark, value
-  unfoldable pub shown : ℕ → ℕ → ℕ
-  shown m v = cond (hid m) 0 v
-
   -- the disassembly in 32 bytes, zero padded, all zero if hidden: mark, word
   unfoldable pub shownText : ℕ → ℕ → List ℕ
   shownText m w = padded textWidth (cond (hid m) [] (disassembleText w))
 
   -- kind, index, mark, value
   unfoldable pub valueRecord : ℕ → ℕ → ℕ → ℕ → List ℕ
-  valueRecord kind i m v = kind ∷ i ∷ m ∷ bigEndian 2 (shown m v)
+  valueRecord kind i m v = kind ∷ i ∷ m ∷ bigEndian 2 (shown hid m v)
 
   -- kind 02, a starting word: address, mark, value, disassembly
   unfoldable pub startRecord : ℕ → ℕ → ℕ → List ℕ

@@ -5,13 +5,14 @@ ghost use Prim.Native.Nat.{_+_, _≤_};
 ghost use lib.ListN.{length};
 ghost use Rattle.encoding.specs.Bytes.{over};
 ghost use Rattle.marks.specs.Marks.{marked};
-ghost use Rattle.report.specs.Report.{headRecord, shown, shownText, valueRecord, startRecord, traceBytes, faultBytes, countBytes, controlBytes, endRecord};
+ghost use Rattle.report.specs.Report.{headRecord, shownText, valueRecord, startRecord, traceBytes, faultBytes, countBytes, controlBytes, endRecord};
 use control::Counters;
 use control::Fault;
 use control::State;
 use disasm::disassemble_into;
 use encoding::put_bytes;
 use encoding::put_number;
+use marks::shown_value;
 
 // Kind 01, at byte 0: image length, budget, breakpoint count.
 pub(crate) fn put_head(out: &mut [u8], len: usize, budget: u64, count: usize)
@@ -22,13 +23,6 @@ pub(crate) fn put_head(out: &mut [u8], len: usize, budget: u64, count: usize)
     put_number(out, 1, 2, len as u64);
     put_number(out, 3, 8, budget);
     put_number(out, 11, 2, count as u64);
-}
-
-// The value that a record shows: 0 for one that is marked.
-fn shown_value(mark: u8, value: u16) -> u16
-    ensures { λ r. ⌜ r ≡ shown marked mark value ⌝ }
-{
-    if mark == 0 { value } else { 0 }
 }
 
 // The disassembly that a record shows: zeros for a word that is marked.

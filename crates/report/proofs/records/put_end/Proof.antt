@@ -3,9 +3,9 @@
 use mathlib.Core.Path.{refl}
 use mathlib.Core.List.{[], _∷_}
 use native.Mathlib.Omega.{arith}
-use Rattle.marks.specs.Marks.{marked}
+use Rattle.marks.specs.Marks.{marked, shown}
 use Rattle.encoding.proofs.Written.{overs-eq}
-use Rattle.report.specs.Report.{shown, controlBytes, countBytes, faultBytes, endRecord}
+use Rattle.report.specs.Report.{controlBytes, countBytes, faultBytes, endRecord}
 use Rattle.report.proofs.Shows.{length-control, length-counts, length-fault}
 use borrow.Author.Needs.{needs}
 use Rattle.report.proofs.records.put_end.Statement.{statement}
