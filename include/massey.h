@@ -36,22 +36,33 @@ int64_t massey_listing(const uint8_t *image, size_t image_len, uint8_t *out,
 int64_t massey_report(const uint8_t *input, size_t input_len, uint8_t *out,
                       size_t out_len);
 
-/* The next six load the image's whole words, of which the first 256 count, on
+/* The next eight load the image's whole words, of which the first 256 count, on
  * a new machine, and cannot be refused. They are for timing: each puts one of
  * the machine's calls to work and answers a number that shows what was done. */
 
-/* Runs the machine with that budget of instructions and no breakpoints, and
- * answers its number of micro operations. */
-uint64_t massey_run(const uint8_t *image, size_t image_len, uint64_t budget);
+/* Makes so many micro operations one at a time, then runs the machine with that
+ * budget of instructions and these breakpoints, one byte each, and answers its
+ * number of micro operations. */
+uint64_t massey_run(const uint8_t *image, size_t image_len, uint64_t ticks,
+                    uint64_t budget, const uint8_t *breakpoints,
+                    size_t breakpoints_len);
+
+/* Runs the machine by the direct engine, from the start and without breakpoints,
+ * and answers its number of micro operations. */
+uint64_t massey_direct_run(const uint8_t *image, size_t image_len,
+                           uint64_t budget);
 
 /* Makes n instructions one at a time, fewer where the machine halts, and answers
  * its number of micro operations. */
 uint64_t massey_steps(const uint8_t *image, size_t image_len, uint64_t n);
 
+/* The same by the direct engine, without ticks. */
+uint64_t massey_direct_steps(const uint8_t *image, size_t image_len, uint64_t n);
+
 /* The same with n micro operations one at a time. */
 uint64_t massey_ticks(const uint8_t *image, size_t image_len, uint64_t n);
 
-/* Runs the machine as massey_run does, then asks n times whether it still runs,
+/* Runs the machine with that budget and no breakpoints, then asks n times whether it still runs,
  * each time with the whole check of the state, and answers how many times it was
  * told: n. */
 uint64_t massey_checks(const uint8_t *image, size_t image_len, uint64_t budget,

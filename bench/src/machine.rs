@@ -14,6 +14,17 @@ pub const BUDGET: u64 = 1_000_000;
 const CALLS: u64 = 1_000;
 /// Enough instructions that the trace is full when its texts are checked.
 const WARM: u64 = 200;
+/// As many breakpoints as a guarded run may have, at an address that no program
+/// comes to.
+pub const BREAKPOINTS: [u8; 256] = [0xFE; 256];
+/// A run of the port makes its first instruction, then stretches of 256 without
+/// a trace: the two sides must agree wherever a run ends.
+pub const ENDS: [u64; 17] = [
+    0, 1, 7, 128, 129, 255, 256, 257, 511, 512, 513, 767, 768, 769, 1_000, 1_025, 5_000,
+];
+
+/// What a run may take of the original's time.
+pub const RUN_LIMIT: &str = "0.015";
 
 /// Programs that never halt: eight opcodes in a loop, all that the ALU does and
 /// a jump that is not taken, and stores to 64 addresses.
@@ -35,12 +46,18 @@ pub fn agree(programs: &[Vec<u16>]) {
         let image = images::bytes(words);
         assert!(runs_on(words), "a halted machine has nothing to do");
         for n in [0, 1, 2, 7, 100, CALLS] {
-            assert_eq!(archive::run(&image, n), run(words, n));
             assert_eq!(archive::steps(&image, n), steps(words, n));
+            assert_eq!(archive::direct_steps(&image, n), steps(words, n));
             assert_eq!(archive::ticks(&image, n), ticks(words, n));
             assert_eq!(archive::checks(&image, WARM, n), n);
         }
-        assert_eq!(archive::run(&image, BUDGET), run(words, BUDGET));
+        for n in ENDS.into_iter().chain([BUDGET]) {
+            assert_eq!(archive::direct_run(&image, n), run(words, 0, n, &[]));
+            for (ticks, breakpoints) in [(0, &[][..]), (0, &BREAKPOINTS), (2, &[]), (5, &[])] {
+                let ours = archive::run(&image, ticks, n, breakpoints);
+                assert_eq!(ours, run(words, ticks, n, breakpoints));
+            }
+        }
     }
 }
 
@@ -58,9 +75,13 @@ fn runs_on(words: &[u16]) -> bool {
     machine.is_running()
 }
 
-pub fn run(words: &[u16], budget: u64) -> u64 {
+/// The micro operations of a run, after so many ticks.
+pub fn run(words: &[u16], ticks: u64, budget: u64, breakpoints: &[u8]) -> u64 {
     let mut machine = loaded(words);
-    black_box(machine.run(budget, &[]));
+    for _ in 0..ticks {
+        machine.micro_step();
+    }
+    black_box(machine.run(budget, breakpoints));
     machine.micro_operations
 }
 
@@ -93,14 +114,38 @@ pub struct Call {
 
 /// A whole run counts as one call. The check of the state is beside an
 /// instruction of the original, which checks nothing.
-pub const CALLS_TIMED: [Call; 4] = [
+pub const CALLS_TIMED: [Call; 8] = [
     Call {
         name: "`run`, budget 1,000,000",
-        limit: "0.2",
+        limit: RUN_LIMIT,
         rounds: RUN_ROUNDS,
         calls: 1,
-        rust: |words| run(words, BUDGET),
-        ours: |image| archive::run(image, BUDGET),
+        rust: |words| run(words, 0, BUDGET, &[]),
+        ours: |image| archive::run(image, 0, BUDGET, &[]),
+    },
+    Call {
+        name: "the same with 256 breakpoints",
+        limit: RUN_LIMIT,
+        rounds: RUN_ROUNDS,
+        calls: 1,
+        rust: |words| run(words, 0, BUDGET, &BREAKPOINTS),
+        ours: |image| archive::run(image, 0, BUDGET, &BREAKPOINTS),
+    },
+    Call {
+        name: "the same, begun in mid-instruction",
+        limit: RUN_LIMIT,
+        rounds: RUN_ROUNDS,
+        calls: 1,
+        rust: |words| run(words, 2, BUDGET, &[]),
+        ours: |image| archive::run(image, 2, BUDGET, &[]),
+    },
+    Call {
+        name: "`direct_run`, to a `run`",
+        limit: RUN_LIMIT,
+        rounds: RUN_ROUNDS,
+        calls: 1,
+        rust: |words| run(words, 0, BUDGET, &[]),
+        ours: |image| archive::direct_run(image, BUDGET),
     },
     Call {
         name: "`step_instruction`",
@@ -109,6 +154,14 @@ pub const CALLS_TIMED: [Call; 4] = [
         calls: CALLS,
         rust: |words| steps(words, CALLS),
         ours: |image| archive::steps(image, CALLS),
+    },
+    Call {
+        name: "`direct_instruction`, to a `step_instruction`",
+        limit: "1.5",
+        rounds: ROUNDS,
+        calls: CALLS,
+        rust: |words| steps(words, CALLS),
+        ours: |image| archive::direct_steps(image, CALLS),
     },
     Call {
         name: "`micro_step`",

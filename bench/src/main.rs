@@ -42,11 +42,26 @@ fn main() {
     for call in &machine::CALLS_TIMED {
         row(call.name, call.limit, machine::timed(call, &programs));
     }
+    for (name, program) in ["eight opcodes", "all of the ALU", "stores alone"]
+        .iter()
+        .zip(&programs)
+    {
+        row(
+            &format!("`run`, budget 1,000,000, {name}"),
+            machine::RUN_LIMIT,
+            machine::timed(&machine::CALLS_TIMED[0], std::slice::from_ref(program)),
+        );
+    }
     report::agree(&programs);
     row(
         "the report call, budget 1,000,000, to a `run`",
-        "0.25",
-        report::whole(&programs),
+        machine::RUN_LIMIT,
+        report::whole(&programs, &[]),
+    );
+    row(
+        "the same with 256 breakpoints",
+        machine::RUN_LIMIT,
+        report::whole(&programs, &machine::BREAKPOINTS),
     );
     row(
         "the report of an empty image, to 256 words",
@@ -175,7 +190,7 @@ fn median(mut times: Vec<f64>) -> f64 {
 
 fn row(name: &str, limit: &str, (rust, ours): (f64, f64)) {
     println!(
-        "| {name} | {rust:.0} | {ours:.0} | {:.3} | {limit} |",
+        "| {name} | {rust:.0} | {ours:.0} | {:.4} | {limit} |",
         ours / rust
     );
 }

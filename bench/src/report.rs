@@ -2,7 +2,7 @@
 //! input. The original has no such call; beside it stand its plain `run` on the
 //! same program, and its disassembly of 256 words.
 
-use crate::machine::{run, BUDGET, RUN_ROUNDS};
+use crate::machine::{run, BREAKPOINTS, BUDGET, ENDS, RUN_ROUNDS};
 use crate::{medians, ROUNDS};
 use oracle::disasm;
 use oracle::guarded::Input;
@@ -13,12 +13,12 @@ const REPORT: usize = 33_930;
 const MEMORY: usize = 256;
 
 /// What the report program reads for an image without hidden words.
-fn input(words: &[u16], budget: u64) -> Vec<u8> {
+fn input(words: &[u16], budget: u64, breakpoints: &[u8]) -> Vec<u8> {
     report_program::bytes(&Input {
         image: words.to_vec(),
         marks: vec![0; MEMORY],
         budget,
-        breakpoints: Vec::new(),
+        breakpoints: breakpoints.to_vec(),
     })
 }
 
@@ -26,21 +26,27 @@ fn input(words: &[u16], budget: u64) -> Vec<u8> {
 pub fn agree(programs: &[Vec<u16>]) {
     let mut out = [0; REPORT];
     for words in programs.iter().map(Vec::as_slice).chain([&[][..]]) {
-        for budget in [0, 1, 7, 1_000] {
-            let bytes = input(words, budget);
-            let length = archive::report(&bytes, &mut out) as usize;
-            assert_eq!(out[..length], *report_program::answer(&bytes));
+        for budget in ENDS {
+            for breakpoints in [&[][..], &BREAKPOINTS] {
+                let bytes = input(words, budget, breakpoints);
+                let length = archive::report(&bytes, &mut out) as usize;
+                assert_eq!(out[..length], *report_program::answer(&bytes));
+            }
         }
     }
 }
 
-/// A run and its report, beside the original's plain run.
-pub fn whole(programs: &[Vec<u16>]) -> (f64, f64) {
-    let inputs: Vec<Vec<u8>> = programs.iter().map(|words| input(words, BUDGET)).collect();
+/// A run and its report, beside the original's plain run with as many
+/// breakpoints.
+pub fn whole(programs: &[Vec<u16>], breakpoints: &[u8]) -> (f64, f64) {
+    let inputs: Vec<Vec<u8>> = programs
+        .iter()
+        .map(|words| input(words, BUDGET, breakpoints))
+        .collect();
     let mut out = [0; REPORT];
     let mut rust = || {
         for words in programs {
-            black_box(run(black_box(words), BUDGET));
+            black_box(run(black_box(words), 0, BUDGET, breakpoints));
         }
     };
     let mut ours = || {
@@ -53,7 +59,7 @@ pub fn whole(programs: &[Vec<u16>]) -> (f64, f64) {
 
 /// The report of an empty image, beside the original's texts of 256 words.
 pub fn empty(words: &[u16]) -> (f64, f64) {
-    let bytes = input(&[], 1);
+    let bytes = input(&[], 1, &[]);
     let mut out = [0; REPORT];
     let mut rust = || {
         for word in words {

@@ -1,6 +1,6 @@
 -- The four counters (01, section 1, refusal 9, and section 3; vm.rs, `micro_step`).
 -- Assumes nothing.
-use Prim.Native.Nat.{ℕ, _+_, _%_, _^_}
+use Prim.Native.Nat.{ℕ, zero, suc, _+_, _%_, _^_}
 use mathlib.Core.Bool.{Bool, cond, _||_}
 use lib.Dec.{ltb}
 use Rattle.control.specs.declared.control.BusTransfer.{BusTransfer}
@@ -21,6 +21,11 @@ overCounted k = far (k .instructions) || (far (k .«micro_operations») || (far 
 -- one more; a machine is refused before it comes round
 abbrev pub oneMore : ℕ → ℕ
 oneMore n = (n + 1) % 2 ^ 64
+
+-- n more
+abbrev pub more : ℕ → ℕ → ℕ
+more zero k = k
+more (suc n) k = oneMore (more n k)
 
 -- a read and a write are counted apart
 abbrev pub countTransfer : BusTransfer → Counters → Counters

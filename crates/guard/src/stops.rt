@@ -4,7 +4,7 @@ ghost use Prim.Native.Nat.{_-_};
 ghost use lib.Dec.{eqb};
 ghost use Rattle.control.specs.Count.{overCounted};
 ghost use Rattle.marks.specs.Marks.{marked};
-ghost use Rattle.guard.specs.Stops.{reached, haltStop, verdictIf, runVerdictOf, stopNumber, haltedStop, isJump, hiddenJump, guardIf, verdictOf};
+ghost use Rattle.guard.specs.Stops.{reached, haltStop, verdictIf, runVerdictOf, stopNumber, haltedStop, isJump, hiddenJump, guardIf, verdictOf, passes};
 use control::Counters;
 use control::Fault;
 use control::State;
@@ -14,6 +14,7 @@ use isa::Decoded;
 use isa::Instruction;
 use isa::Opcode;
 use isa::REGISTER_COUNT;
+use marks::hides;
 
 // Why the machine stopped running. `Refused` has the refusal's number, and stands for no stop.
 pub enum RunStop {
@@ -141,7 +142,7 @@ fn is_jump(decoded: Decoded) -> bool
 }
 
 // Whether the word is a jump that would test a hidden register; one on R0 tests none.
-pub fn hidden_jump(word: u16, registers: &[u8; REGISTER_COUNT]) -> bool
+fn hidden_jump(word: u16, registers: &[u8; REGISTER_COUNT]) -> bool
     ensures { λ r. ⌜ r ≡ hiddenJump marked word (now (registers .entry)) ⌝ }
 {
     let i = Instruction::from_word(word);
@@ -154,10 +155,10 @@ pub fn hidden_jump(word: u16, registers: &[u8; REGISTER_COUNT]) -> bool
     if x == 0 {
         return false;
     }
-    if registers[x] != 0 {
+    if hides(registers[x]) {
         return true;
     }
-    registers[0] != 0
+    hides(registers[0])
 }
 
 // Whether a guarded run begins the next instruction, or why not.
@@ -190,7 +191,7 @@ pub fn judge(
     if budget <= begun {
         return Verdict::Stop(GuardedStop::Budget);
     }
-    if mark != 0 {
+    if hides(mark) {
         return Verdict::Stop(GuardedStop::HiddenWord);
     }
     let hidden = hidden_jump(word, registers);
@@ -198,4 +199,27 @@ pub fn judge(
         return Verdict::Stop(GuardedStop::HiddenJump);
     }
     Verdict::Go
+}
+
+// What is tested before an instruction of a run and of a guarded run, but for the budget and the counters: whether more
+// are asked for, the table of breakpoints at its address, what is hidden.
+pub fn may_go(
+    more: bool,
+    break_here: u8,
+    mark_here: u8,
+    word: u16,
+    register_marks: &[u8; REGISTER_COUNT],
+) -> bool
+    ensures { λ r. ⌜ r ≡ passes more «break_here» «mark_here» word (now («register_marks» .entry)) ⌝ }
+{
+    if !more {
+        return false;
+    }
+    if break_here != 0 {
+        return false;
+    }
+    if hides(mark_here) {
+        return false;
+    }
+    !hidden_jump(word, register_marks)
 }

@@ -9,9 +9,9 @@ use lib.Seq.{set-getD}
 use Rattle.isa.specs.declared.opcode.Opcode.the-variants.{LoadImmediate, LoadRegister, LoadMemory, StoreMemory, Add, Negate, ShiftRight, ShiftLeft, And, Or, Xor, Jump, Halt}
 use Rattle.isa.specs.declared.opcode.Decoded.{Decoded}
 use Rattle.isa.specs.declared.opcode.Decoded.the-variants.{Known, Unknown}
-use Rattle.isa.specs.Word.{decodeWord, digitX, digitY, digitZ, byteYZ}
+use Rattle.isa.specs.Word.{digitX, digitY, digitZ, byteYZ}
 use Rattle.marks.specs.declared.Moved.{Moved}
-use Rattle.marks.specs.Marks.{Marks, joinedYZ, executedMarks, instructionMarks, moves}
+use Rattle.marks.specs.Marks.{Marks, joinedYZ, executedMarks, moves}
 
 -- a register and the word at yz get a mark, and MDR
 abbrev markedBy : ℕ → Moved → List ℕ → List ℕ → Marks
@@ -48,14 +48,13 @@ module _ (w : ℕ) (m r : List ℕ) where
   executed (Known Halt) = still
   executed Unknown = still
 
-  -- whatever MDR's mark was; by what the code finds: the opcode, the marks joined, what moves, the register
-  pub marks-moved : (q : ℕ) {d : Decoded} {j t : ℕ} {v : Moved} → d ≡ decodeWord w → j ≡ joinedYZ w start → v ≡ moves d (getD r (digitX w) 0) (getD r (digitY w) 0) (getD r (digitZ w) 0) j (getD m (byteYZ w) 0) → t ≡ cond (v .0) (digitY w) (digitX w)
-      → record { memory = set m (byteYZ w) (v .2); registers = set r t (v .1); mdr = v .3 } ≡ instructionMarks w (record { memory = m; registers = r; mdr = q })
-  unfolding instructionMarks
-  marks-moved q {v = v} d j e t =
+  -- by what the code finds: the marks joined, what moves, the register
+  pub marks-moved : (d : Decoded) {j t : ℕ} {v : Moved} → j ≡ joinedYZ w start → v ≡ moves d (getD r (digitX w) 0) (getD r (digitY w) 0) (getD r (digitZ w) 0) j (getD m (byteYZ w) 0) → t ≡ cond (v .0) (digitY w) (digitX w)
+      → record { memory = set m (byteYZ w) (v .2); registers = set r t (v .1); mdr = v .3 } ≡ executedMarks d w start
+  marks-moved d {v = v} j e t =
       (λ i. record { memory = set m (byteYZ w) (v .2); registers = set r (t i) (v .1); mdr = v .3 })
-      ∙ ap (λ (x : Moved). markedBy w x m r) (e ∙ (λ i. moves (d i) (getD r (digitX w) 0) (getD r (digitY w) 0) (getD r (digitZ w) 0) (j i) (getD m (byteYZ w) 0)))
-      ∙ sym (executed (decodeWord w))
+      ∙ ap (λ (x : Moved). markedBy w x m r) (e ∙ (λ i. moves d (getD r (digitX w) 0) (getD r (digitY w) 0) (getD r (digitZ w) 0) (j i) (getD m (byteYZ w) 0)))
+      ∙ sym (executed d)
 
 pub pick-below : (second : Bool) (n : ℕ) {a b : ℕ} → a < n → b < n → cond second b a < n
 pick-below true n p q = q

@@ -17,6 +17,10 @@ pub record Marks : Type 0 where
   pub registers : List ℕ
   pub mdr : ℕ
 
+-- of memory, of the registers, of MDR
+abbrev pub marksOf : List ℕ → List ℕ → ℕ → Marks
+marksOf m r d = record { memory = m; registers = r; mdr = d }
+
 -- the marks that hide
 abbrev pub marked : ℕ → Bool
 marked n = not (eqb n 0)

@@ -1,7 +1,7 @@
 // Marks: which words and registers are hidden, and how an instruction moves that. A mark of 0 is open.
 ghost use mathlib.Core.Path.{_≡_};
 ghost use mathlib.Core.Bool.{cond};
-ghost use Rattle.marks.specs.Marks.{marked, shown, joined, moves, instructionMarks};
+ghost use Rattle.marks.specs.Marks.{marked, marksOf, shown, joined, moves, executedMarks, instructionMarks};
 use isa::Decoded;
 use isa::Instruction;
 use isa::MEMORY_WORDS;
@@ -18,11 +18,18 @@ pub struct Marks {
 // word at yz; and MDR's. Where it moves none, a mark is its own again: so every instruction is made alike.
 pub struct Moved(pub bool, pub u8, pub u8, pub u8);
 
+// Whether a value with this mark is hidden: what hides is asked here and nowhere else.
+pub fn hides(mark: u8) -> bool
+    ensures { λ r. ⌜ r ≡ marked mark ⌝ }
+{
+    mark != 0
+}
+
 // The value that a report shows: 0 for one that is marked.
 pub fn shown_value(mark: u8, value: u16) -> u16
     ensures { λ r. ⌜ r ≡ shown marked mark value ⌝ }
 {
-    if mark == 0 { value } else { 0 }
+    if hides(mark) { 0 } else { value }
 }
 
 // The mark of what comes from two sources.
@@ -62,20 +69,20 @@ fn pick(second: bool, a: usize, b: usize) -> usize
     if second { b } else { a }
 }
 
-// What a whole instruction does to the marks; it answers MDR's.
-pub fn mark_instruction(
+// What a whole instruction does to the marks, by the opcode that its word has; it answers MDR's.
+pub fn mark_decoded(
+    decoded: Decoded,
     word: u16,
     memory: &mut [u8; MEMORY_WORDS],
     registers: &mut [u8; REGISTER_COUNT],
 ) -> u8
-    ensures { λ r. ⌜ record { memory = now (memory .exit); registers = now (registers .exit); mdr = r } ≡ instructionMarks word (record { memory = now (memory .entry); registers = now (registers .entry); mdr = 0 }) ⌝ }
+    ensures { λ r. ⌜ marksOf (now (memory .exit)) (now (registers .exit)) r
+        ≡ executedMarks decoded word (marksOf (now (memory .entry)) (now (registers .entry)) 0) ⌝ }
 {
     let x = (word / 256 % 16) as usize;
     let y = (word / 16 % 16) as usize;
     let z = (word % 16) as usize;
     let at = (word % 256) as usize;
-    let i = Instruction::from_word(word);
-    let decoded = i.opcode();
     let second = registers[y];
     let third = registers[z];
     let both = join(second, third);
@@ -84,4 +91,18 @@ pub fn mark_instruction(
     registers[to] = m.1;
     memory[at] = m.2;
     m.3
+}
+
+// The same of a word.
+pub fn mark_instruction(
+    word: u16,
+    memory: &mut [u8; MEMORY_WORDS],
+    registers: &mut [u8; REGISTER_COUNT],
+) -> u8
+    ensures { λ r. ⌜ marksOf (now (memory .exit)) (now (registers .exit)) r
+        ≡ instructionMarks word (marksOf (now (memory .entry)) (now (registers .entry)) 0) ⌝ }
+{
+    let i = Instruction::from_word(word);
+    let decoded = i.opcode();
+    mark_decoded(decoded, word, memory, registers)
 }

@@ -1,4 +1,4 @@
--- The laws of `specs/Machine.antt`: the words of an image, the machine that is started on them, a run of it, and what a step of it leaves.
+-- The laws of `specs/Machine.antt`: the words of an image, the machine that is started on them, and what a step of it leaves.
 -- Assumes nothing.
 use Prim.Native.Nat.{ℕ, _+_, _*_, _-_, _/_, _≤_, _<_}
 use native.Mathlib.Omega.{arith}
@@ -15,9 +15,8 @@ use Rattle.control.specs.Count.{overCounted}
 use Rattle.vm.specs.declared.machine.Machine.{Machine as Code}
 use Rattle.vm.specs.Machine.{Machine, microStep}
 use Rattle.vm.specs.Instruction.{stepInstruction}
-use Rattle.vm.specs.Run.{RunEnd, run}
 use Rattle.vm.specs.Refusal.{refusal, stepRefusalIf, stepRefusal}
-use Rattle.vm.specs.Calls.{Outcome, refused, served, answered, outcomeIf, haltedOp, microOp, microOutcome, haltedReport, instructionReport, stepOutcome, runOutcome, viewOf, isMachine, refusalOf, stepRefusalOf, restarted, imageWords, serve, loaded}
+use Rattle.vm.specs.Calls.{Outcome, refused, served, answered, outcomeIf, haltedOp, microOp, microOutcome, haltedReport, instructionReport, stepOutcome, viewOf, isMachine, refusalOf, stepRefusalOf, restarted, imageWords, serve, loaded}
 use Rattle.vm.specs.declared.micro.MicroOp.{MicroOp}
 use Rattle.vm.specs.declared.report.InstructionReport.{InstructionReport}
 use Rattle.vm.proofs.Starts.{new-ok}
@@ -50,10 +49,6 @@ words-length image = length-numbers 2 (wordCount (length image)) image
 pub start-ok : (image : List ℕ) → isMachine (start image) ≡ true
 unfolding start
 start-ok image = new-ok (imageWords (wordsOf image)) (wordCount (length image)) 0 (count-fits (length image) .0)
-
-start-runs : (image : List ℕ) → start image .state .control .halted ≡ false
-unfolding start restarted
-start-runs image = refl
 
 -- a call on a machine is served
 new-served : {ok : Bool} → ok ≡ true → (new old : Code) → serve (cond ok 0 8) new old .machine ≡ new
@@ -92,18 +87,6 @@ start-loaded image {ws} {m} e g =
     (λ i. loaded (e i) (g i) .machine)
     ∙ loaded-new (wordsOf image) new (new-ok (imageWords []) 0 0 (omega arith)) (omega (arith, l, f .0))
     ∙ (λ i. restarted (imageWords (wordsOf image)) (l i) (no-history (imageWords []) 0 0 i))
-
--- ---- a run
-
-pub run-served : (breaks : List ℕ) (n : ℕ) (m : Machine) {ok : Bool} → ok ≡ true → m .state .control .halted ≡ false → runOutcome ok breaks n m ≡ run breaks 0 n m
-unfolding runOutcome
-run-served breaks n m e h = rw (e, h)
-
-pub run-started : (image : List ℕ) (n : ℕ) {s : Code} {r : RunEnd} → s ≡ start image → r ≡ runOutcome (isMachine s) [] n (viewOf s) → r ≡ run [] 0 n (viewOf (start image))
-run-started image n e g =
-    g
-    ∙ ap (λ (m : Code). runOutcome (isMachine m) [] n (viewOf m)) e
-    ∙ run-served [] n (viewOf (start image)) (start-ok image) (start-runs image)
 
 -- ---- what a step leaves
 

@@ -1,8 +1,8 @@
 -- The calls that run an image on a new machine and answer how many micro operations it made (01, sections 3 and 4).
 -- Assumes nothing.
 use Prim.Native.Nat.{ℕ, zero, suc, _/_}
-use mathlib.Core.Bool.{cond}
-use mathlib.Core.List.{List, []}
+use mathlib.Core.Bool.{true, cond}
+use mathlib.Core.List.{List}
 use lib.Dec.{ltb}
 use lib.ListN.{length}
 use Rattle.isa.specs.Sizes.{memoryWords}
@@ -11,8 +11,7 @@ use Rattle.control.specs.Count.{overCounted}
 use Rattle.vm.specs.declared.machine.Machine.{Machine as Code}
 use Rattle.vm.specs.Machine.{Machine, microStep}
 use Rattle.vm.specs.Instruction.{stepInstruction}
-use Rattle.vm.specs.Run.{run}
-use Rattle.vm.specs.Calls.{viewOf, restarted, imageWords}
+use Rattle.vm.specs.Calls.{runOutcome, viewOf, restarted, imageWords}
 
 -- how many words count of so many bytes
 abbrev pub wordCount : ℕ → ℕ
@@ -38,11 +37,16 @@ moving next m = cond (m .state .control .halted) m (cond (overCounted (m .counte
 abbrev pub madeBy : Machine → ℕ
 madeBy m = m .counters .«micro_operations»
 
-unfoldable pub runCount : List ℕ → ℕ → ℕ
-runCount image budget = madeBy (run [] 0 budget (viewOf (start image)) .machine)
+-- the machine after n ticks
+unfoldable pub ticksOn : List ℕ → ℕ → Machine
+ticksOn image n = times n (moving microStep) (viewOf (start image))
+
+unfoldable pub ticksCount : List ℕ → ℕ → ℕ
+ticksCount image n = madeBy (ticksOn image n)
+
+-- a run after n ticks, with these breakpoints
+unfoldable pub runCount : List ℕ → ℕ → ℕ → List ℕ → ℕ
+runCount image n budget breaks = madeBy (runOutcome true breaks budget (ticksOn image n) .machine)
 
 unfoldable pub stepsCount : List ℕ → ℕ → ℕ
 stepsCount image n = madeBy (times n (moving (λ m. stepInstruction m .machine)) (viewOf (start image)))
-
-unfoldable pub ticksCount : List ℕ → ℕ → ℕ
-ticksCount image n = madeBy (times n (moving microStep) (viewOf (start image)))

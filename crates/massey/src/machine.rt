@@ -1,7 +1,10 @@
 // A machine that runs a program image, and how much it did. Each call has one call of the machine in
 // it, so that the compiler can put that call's code into the loop.
 ghost use mathlib.Core.Path.{_≡_};
-ghost use Rattle.massey.specs.Machine.{wordCount, start, runCount, stepsCount, ticksCount};
+ghost use mathlib.Core.Bool.{true};
+ghost use mathlib.Core.List.{[]};
+ghost use Rattle.vm.specs.Calls.{viewOf, isMachine};
+ghost use Rattle.massey.specs.Machine.{wordCount, start, ticksOn, runCount, stepsCount, ticksCount};
 use encoding::get_words;
 use isa::MEMORY_WORDS;
 use vm::Begun;
@@ -27,13 +30,39 @@ pub(crate) fn started(image: &[u8]) -> Machine
     served.machine
 }
 
-// The micro operations of a run with that budget and no breakpoints.
+// The machine after `n` ticks, one at a time.
+fn ticked(image: &[u8], n: u64) -> Machine
+    ensures { λ r. ⌜ (viewOf r ≡ ticksOn (now (image .entry)) n) × (isMachine r ≡ true) ⌝ }
+{
+    let mut m = started(image);
+    let mut i: u64 = 0;
+    while i < n {
+        let a = m.micro_step();
+        let next = a.machine;
+        m = next;
+        i += 1;
+    }
+    m
+}
+
+// The micro operations of a run with that budget and these breakpoints, after `ticks` micro operations one at a time.
 #[no_mangle]
-pub extern "C" fn massey_run(image: &[u8], budget: u64) -> u64
-    ensures { λ r. ⌜ r ≡ runCount (now (image .entry)) budget ⌝ }
+pub extern "C" fn massey_run(image: &[u8], ticks: u64, budget: u64, breakpoints: &[u8]) -> u64
+    ensures { λ r. ⌜ r ≡ runCount (now (image .entry)) ticks budget (now (breakpoints .entry)) ⌝ }
+{
+    let m = ticked(image, ticks);
+    let ran = m.run(Begun(budget), breakpoints);
+    let end = ran.machine;
+    end.counters.micro_operations
+}
+
+// The same by the direct engine, from the start and without breakpoints.
+#[no_mangle]
+pub extern "C" fn massey_direct_run(image: &[u8], budget: u64) -> u64
+    ensures { λ r. ⌜ r ≡ runCount (now (image .entry)) 0 budget [] ⌝ }
 {
     let m = started(image);
-    let ran = m.run(Begun(budget), b"");
+    let ran = m.direct_run(Begun(budget), b"");
     let end = ran.machine;
     end.counters.micro_operations
 }
@@ -54,19 +83,28 @@ pub extern "C" fn massey_steps(image: &[u8], n: u64) -> u64
     m.counters.micro_operations
 }
 
+// The same, without ticks.
+#[no_mangle]
+pub extern "C" fn massey_direct_steps(image: &[u8], n: u64) -> u64
+    ensures { λ r. ⌜ r ≡ stepsCount (now (image .entry)) n ⌝ }
+{
+    let mut m = started(image);
+    let mut i: u64 = 0;
+    while i < n {
+        let a = m.direct_instruction();
+        let next = a.machine;
+        m = next;
+        i += 1;
+    }
+    m.counters.micro_operations
+}
+
 // The micro operations of `n` ticks, one at a time.
 #[no_mangle]
 pub extern "C" fn massey_ticks(image: &[u8], n: u64) -> u64
     ensures { λ r. ⌜ r ≡ ticksCount (now (image .entry)) n ⌝ }
 {
-    let mut m = started(image);
-    let mut i: u64 = 0;
-    while i < n {
-        let a = m.micro_step();
-        let next = a.machine;
-        m = next;
-        i += 1;
-    }
+    let m = ticked(image, n);
     m.counters.micro_operations
 }
 

@@ -15,9 +15,11 @@ use encoding::put_number;
 use guard::RunStop;
 use isa::Text;
 use vm::Begun;
+use vm::InstructionAnswer;
 use vm::InstructionReport;
 use vm::Machine;
 use vm::MicroOp;
+use vm::Ran;
 use vm::Served;
 
 // A call that answers nothing more than its refusal.
@@ -112,9 +114,8 @@ fn put_report(out: &mut [u8], r: InstructionReport) -> usize {
     append(out, at, &ends)
 }
 
-// `step_instruction`.
-fn step(m: Machine) -> Machine {
-    let a = m.step_instruction();
+// `step_instruction`, and the direct engine's instruction.
+fn stepped(a: InstructionAnswer) -> Machine {
     let report = a.report;
     let mut bytes = [0u8; 262];
     let n = put_report(&mut bytes, report);
@@ -146,13 +147,8 @@ fn stop_number(stop: RunStop) -> u64 {
     }
 }
 
-// `run`. The breakpoints are what the command has behind its first 11 bytes.
-fn run(m: Machine, command: &[u8]) -> Machine {
-    if command.len() < 11 {
-        return m;
-    }
-    let budget = get_number(command, 1, 8);
-    let r = m.run(Begun(budget), &command[11..]);
+// `run`, and the direct engine's run.
+fn ran(r: Ran) -> Machine {
     let stop = r.stop;
     let executed = r.executed;
     let mut bytes = [0u8; 10];
@@ -160,6 +156,18 @@ fn run(m: Machine, command: &[u8]) -> Machine {
     put_number(&mut bytes, 2, 8, executed.0);
     write_answer(run_refusal(stop), &bytes);
     r.machine
+}
+
+// A run by either. The breakpoints are what the command has behind its first 11 bytes.
+fn run(m: Machine, command: &[u8], direct: bool) -> Machine {
+    if command.len() < 11 {
+        return m;
+    }
+    let budget = get_number(command, 1, 8);
+    if direct {
+        return ran(m.direct_run(Begun(budget), &command[11..]));
+    }
+    ran(m.run(Begun(budget), &command[11..]))
 }
 
 // A dump leaves the machine as it is.
@@ -183,9 +191,11 @@ fn called(m: Machine, command: &[u8]) -> Machine {
         0x02 => served(m.reset()),
         0x03 => served(m.clear()),
         0x04 => micro(m),
-        0x05 => step(m),
-        0x06 => run(m, command),
+        0x05 => stepped(m.step_instruction()),
+        0x06 => run(m, command, false),
         0x09 => served(m.clear_history()),
+        0x0D => stepped(m.direct_instruction()),
+        0x0E => run(m, command, true),
         _ => set_field(m, command),
     }
 }

@@ -26,8 +26,8 @@ fn length_of(rest: &[u8]) -> usize {
     let kind = get_number(rest, 0, 1);
     match kind {
         0x01 => 3 + 2 * count_at(rest, 1),
-        0x06 => 11 + count_at(rest, 9),
-        0x00..=0x0A => 1,
+        0x06 | 0x0E => 11 + count_at(rest, 9),
+        0x00..=0x0A | 0x0D => 1,
         0x0B => 12,
         0x0C => 6,
         _ => 0,

@@ -287,13 +287,13 @@ fn alu_tick(
 }
 
 // Counts of 16 or more give 0.
-fn shifted_right(value: u16, count: u16) -> u16
+pub fn shifted_right(value: u16, count: u16) -> u16
     ensures { λ r. ⌜ r ≡ right16 count value ⌝ }
 {
     if count < 16 { value >> count } else { 0 }
 }
 
-fn shifted_left(value: u16, count: u16) -> u16
+pub fn shifted_left(value: u16, count: u16) -> u16
     ensures { λ r. ⌜ r ≡ left16 count value ⌝ }
 {
     if count < 16 { value << count } else { 0 }

@@ -2,4 +2,6 @@
 // and their counters the layers' below.
 mod execute;
 
+pub use execute::shifted_left;
+pub use execute::shifted_right;
 pub use execute::tick_of;

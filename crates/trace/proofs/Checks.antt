@@ -79,15 +79,16 @@ same-bit : (m : Bool) → _≡_ {A = ℕ} (cond (cond m true false) 1 0) (cond m
 same-bit true = refl
 same-bit false = refl
 
-module _ (seen p : List ℕ) (x : ℕ) (long : length seen ≡ 256) (small : x < 256) (table : (a : ℕ) → a < 256 → getD seen a 0 ≡ cond (member a p) 1 0) where
+module _ (seen p : List ℕ) (x : ℕ) (long : length seen ≡ 256) (table : (a : ℕ) → a < 256 → getD seen a 0 ≡ cond (member a p) 1 0) where
   -- the table after one more
   pub seen-next : (a : ℕ) → a < 256 → getD (set seen x 1) a 0 ≡ cond (member a (p ++ (x ∷ []))) 1 0
   seen-next a h = go (eqb x a) refl
     where
       go : (b : Bool) → eqb x a ≡ b → getD (set seen x 1) a 0 ≡ cond (member a (p ++ (x ∷ []))) 1 0
-      go true e = rw (mem-last, e, bit (member a p), ← eqb-true x a e) (getD-set-same seen x 1 0 (omega arith))
+      go true e = rw (mem-last, e, bit (member a p), ← eqb-true x a e) (getD-set-same seen x 1 0 (omega (arith, eqb-true x a e)))
       go false e = rw (mem-last, e, same-bit (member a p), getD-set-other seen x a 1 0 (λ z. eqb-false x a e (sym z))) (table a h)
 
+module _ (seen p : List ℕ) (x : ℕ) (long : length seen ≡ 256) (small : x < 256) (table : (a : ℕ) → a < 256 → getD seen a 0 ≡ cond (member a p) 1 0) where
   -- the table says 1: it came before
   pub is-seen : getD seen x 0 ≡ 1 → member x p ≡ true
   is-seen e = go (member x p) (sym (table x small) ∙ e)

@@ -1,2 +1,4 @@
 pub mod Trace
 pub mod Touched
+pub mod Cells
+pub mod Lines

@@ -15,6 +15,10 @@ use Rattle.trace.specs.declared.records.Ring.{Ring}
 abbrev pub traceLimit : ℕ
 traceLimit = 512
 
+-- the phase of a tick: 0 in a fetch tick, 2 in an execute tick
+abbrev pub phaseNumber : ℕ → ℕ
+phaseNumber t = cond (ltb t 4) 0 2
+
 -- one record more; of 512 the oldest goes
 unfoldable pub pushed : {A : Type 0} → A → List A → List A
 pushed e t = cond (ltb (length t) traceLimit) t (drop 1 t) ++ (e ∷ [])

@@ -1,10 +1,16 @@
-// The trace and the touched addresses, in arrays that are lent: how a tick writes them. Nothing here needs a
-// machine, and so it lays no condition on its caller.
+// The arrays that a tick writes, as they are lent: memory and registers, the touched addresses, the trace.
+// Nothing here needs a machine, and so it lays no condition on its caller.
+mod cells;
+mod lines;
 mod records;
 mod touched;
 
+pub use cells::set_register;
+pub use cells::set_word;
+pub use lines::push_lines;
 pub use records::Ring;
 pub use records::TraceRecord;
+pub use records::phase_number;
 pub use records::push_trace;
 pub use touched::touch;
 

@@ -5,7 +5,7 @@
 ghost use mathlib.Core.Path.{_≡_};
 ghost use Prim.Native.Nat.{_<_, _*_};
 ghost use lib.ListN.{length};
-ghost use Rattle.trace.specs.Trace.{columnsLength, pasted, arraysOf, nextRing, pushInto};
+ghost use Rattle.trace.specs.Trace.{columnsLength, pasted, arraysOf, phaseNumber, nextRing, pushInto};
 use crate::ADDRESSES_AT;
 use crate::COLUMNS_LENGTH;
 use crate::PHASES_AT;
@@ -56,6 +56,13 @@ fn next_ring(ring: Ring) -> Ring
         start: second % TRACE_LIMIT,
         len,
     }
+}
+
+// The phase of a tick, as the trace has it.
+pub fn phase_number(tick: u8) -> u8
+    ensures { λ r. ⌜ r ≡ phaseNumber tick ⌝ }
+{
+    if tick < 4 { 0 } else { 2 }
 }
 
 // One record more; of 512 the oldest goes.

@@ -1,4 +1,4 @@
--- The laws by subject: `Ticks`, `Turns` and `Runs` of a tick, a turn of the loop over ticks and one over instructions, `Guards` of a turn of the guarded loop, `Newest` of the texts that an instruction leaves in the trace and of its end, `Fits` of the calls by their tests, `Starts` of the calls that start a machine anew, `Loads` of the guarded run's input and its new machine, `Plain`, that the guarded machine is the plain one, `Histories` of the calls on the history, and `Reached`, that served calls leave a machine.
+-- The laws by subject: `Ticks`, `Turns` and `Runs` of a tick, a turn of the loop over ticks and one over instructions, `Guards` of a turn of the guarded loop, `Newest` of the texts that an instruction leaves in the trace and of its end, `Fits` of the calls by their tests, `Starts` of the calls that start a machine anew, `Loads` of the guarded run's input and its new machine, `Plain`, that the guarded machine is the plain one, `Steps`, an instruction tick by tick, `Direct`, that a whole instruction is its ticks, `Wholes`, that the code's whole instruction is that, `Forgets`, that a trace forgets, `Taken`, `Skips` and `GuardedSkips` of runs whose first instructions are made without their records, `Passes` of the code that makes them, `Histories` of the calls on the history, and `Reached`, that served calls leave a machine.
 pub mod Ticks
 pub mod Turns
 pub mod Runs
@@ -10,3 +10,11 @@ pub mod Loads
 pub mod Plain
 pub mod Histories
 pub mod Reached
+pub mod Steps
+pub mod Direct
+pub mod Wholes
+pub mod Forgets
+pub mod Skips
+pub mod Taken
+pub mod GuardedSkips
+pub mod Passes

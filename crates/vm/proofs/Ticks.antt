@@ -24,10 +24,12 @@ use Rattle.control.specs.declared.counters.Counters.{Counters}
 use Rattle.tick.specs.Tick.{withControl, plain, nextPc, haltingTick, toTick, decodeAs, decodeTick, executeTick, endedTick, laterTick, onward, tickOf}
 use Rattle.control.specs.Count.{countTick}
 use Rattle.trace.specs.declared.records.TraceRecord.{TraceRecord}
-use Rattle.trace.specs.Trace.{pushed}
+use Rattle.trace.specs.Trace.{pushed, phaseNumber}
+use Rattle.trace.specs.Cells.{registerOf, registersAfter, registersBy, memoryAfter}
+use Rattle.trace.proofs.Writes.{one-of-sixteen}
 use Rattle.trace.specs.Touched.{touchedBy}
 use Rattle.trace.proofs.Places.{Addressed}
-use Rattle.vm.specs.Machine.{Machine, operandsOf, registerOf, registersAfter, memoryAfter, phaseNumber, nextTextOn, nextText, afterTick, microStep, doneBy, nextDone}
+use Rattle.vm.specs.Machine.{Machine, operandsOf, nextTextOn, nextText, afterTick, microStep, doneBy, nextDone}
 
 -- ---- a register that a tick writes is one of sixteen
 
@@ -188,13 +190,13 @@ module _ (m : Machine) (o : Operands) (x : Text) (ph : ℕ) (q : Tick) (eo : o �
       → ph ≡ phaseNumber (m .state .control .tick)
       → k ≡ countTick (q .bus) (q .completed) (m .counters)
       → m' ≡ memoryAfter (q .bus) (m .memory)
-      → r' ≡ registersAfter (q .write) (m .registers)
+      → r' ≡ registersBy (q .write) (m .registers)
       → t' ≡ pushed (record { number = k .«micro_operations»; address = q .state .control .«instruction_address»; phase = ph; text = x }) (m .trace)
       → l' ≡ touchedBy (q .bus) (m .touched)
       → record { state = q .state; counters = k; memory = m'; registers = r'; trace = t'; touched = l' } ≡ microStep m
   unfolding microStep nextText
   is-tick k ex eph ek em er et el =
-      (λ i. record { state = q .state; counters = k; memory = em i; registers = er i; trace = et i; touched = el i })
+      (λ i. record { state = q .state; counters = k; memory = em i; registers = (er ∙ one-of-sixteen (q .write) (m .registers) (rw eq (named (m .state .control .tick) (m .state) o))) i; trace = et i; touched = el i })
       ∙ (λ i. record {
         state = q .state;
         counters = ek i;

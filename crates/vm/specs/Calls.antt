@@ -23,6 +23,7 @@ use Rattle.control.specs.declared.control.AluRecord.the-variants.{Unused}
 use Rattle.control.specs.declared.control.RegisterWrite.the-variants.{Unwritten}
 use Rattle.vm.specs.declared.machine.Machine.{Machine as Code}
 use Rattle.vm.specs.declared.transfer.Core.{Core}
+use Rattle.vm.specs.declared.run.RanCore.{RanCore}
 use Rattle.vm.specs.declared.transfer.Done.{Done}
 use Rattle.vm.specs.declared.machine.Served.{Served}
 use Rattle.vm.specs.declared.micro.MicroOp.{MicroOp}
@@ -237,6 +238,10 @@ unfoldable pub stepOutcome : ℕ → Machine → Outcome InstructionReport
 stepOutcome n m = outcomeIf n (m .state .control .halted) (haltedReport m) (instructionReport m) m (stepInstruction m .machine)
 
 -- ---- `run`
+
+-- how a run on the code's parts ended
+abbrev pub ranOn : RanCore → Parts → RunEnd
+ranOn r q = record { stop = r .stop; executed = r .executed .0; machine = view q }
 
 -- whether it is a machine, breakpoints, budget
 unfoldable pub runOutcome : Bool → List ℕ → ℕ → Machine → RunEnd

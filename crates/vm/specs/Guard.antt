@@ -8,7 +8,7 @@ use lib.ListN.{length, getD, replicate}
 use Rattle.isa.specs.Sizes.{registerCount}
 use Rattle.guard.specs.declared.stops.GuardedStop.{GuardedStop}
 use Rattle.guard.specs.declared.stops.GuardedStop.the-variants.{Halted, Breakpoint, Fault as Faulted, Budget, HiddenWord, HiddenJump}
-use Rattle.marks.specs.Marks.{Marks, instructionMarks}
+use Rattle.marks.specs.Marks.{Marks, marksOf, instructionMarks}
 use Rattle.guard.specs.Stops.{Verdict, after, reached, hiddenJump, guardIf}
 use Rattle.guard.specs.Input.{Input}
 use Rattle.vm.specs.declared.guarded.GuardedRun.{GuardedRun}
@@ -16,7 +16,8 @@ use Rattle.vm.specs.declared.transfer.Core.{Core}
 use Rattle.vm.specs.Machine.{Machine}
 use Rattle.vm.specs.Instruction.{stepInstruction}
 use Rattle.vm.specs.Run.{spentState}
-use Rattle.vm.specs.View.{spentCore}
+use Rattle.vm.specs.declared.guarded.GuardedCore.{GuardedCore}
+use Rattle.vm.specs.View.{Parts, view, spentCore}
 use Rattle.vm.specs.Calls.{viewOf, restarted, imageWords}
 
 pub record Guarded : Type 0 where
@@ -77,6 +78,14 @@ closedCore Faulted c = c
 closedCore Budget c = spentCore c
 closedCore HiddenWord c = c
 closedCore HiddenJump c = c
+
+-- the machine of the parts, with marks of its memory, its registers and MDR
+abbrev pub guardedOn : Parts → List ℕ → List ℕ → ℕ → Guarded
+guardedOn q m r d = record { machine = view q; marks = marksOf m r d }
+
+-- how the run on the parts ended
+abbrev pub endOn : GuardedCore → Guarded → GuardedEnd
+endOn r g = record { stop = r .stop; executed = r .executed .0; guarded = g }
 
 -- how the run ended, of the struct that the call answers
 abbrev pub endOf : GuardedRun → GuardedEnd

@@ -7,3 +7,5 @@ pub mod Calls
 pub mod History
 pub mod Guard
 pub mod Examples
+pub mod Direct
+pub mod Ahead

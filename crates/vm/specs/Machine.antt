@@ -3,8 +3,8 @@
 use Prim.Native.Nat.{ℕ}
 use mathlib.Core.Bool.{cond, not, _&&_}
 use mathlib.Core.List.{List}
-use lib.Dec.{eqb, ltb}
-use lib.ListN.{getD, set}
+use lib.Dec.{eqb}
+use lib.ListN.{getD}
 use Rattle.isa.specs.declared.text.Text.{Text}
 use Rattle.isa.specs.Text.{text}
 use Rattle.isa.specs.Word.{digitX, digitY, digitZ}
@@ -12,16 +12,13 @@ use Rattle.plan.specs.Plan.{tickText}
 use Rattle.control.specs.declared.control.State.{State}
 use Rattle.control.specs.declared.control.Operands.{Operands}
 use Rattle.control.specs.declared.control.Tick.{Tick}
-use Rattle.control.specs.declared.control.BusTransfer.{BusTransfer}
-use Rattle.control.specs.declared.control.BusTransfer.the-variants.{Idle, Read, Write}
-use Rattle.control.specs.declared.control.RegisterWrite.{RegisterWrite}
-use Rattle.control.specs.declared.control.RegisterWrite.the-variants.{Unwritten, Written}
 use Rattle.control.specs.declared.counters.Counters.{Counters}
 use Rattle.tick.specs.Tick.{tickOf}
 use Rattle.control.specs.Count.{countTick}
 use Rattle.trace.specs.declared.records.TraceRecord.{TraceRecord}
 use Rattle.vm.specs.declared.transfer.Done.{Done}
-use Rattle.trace.specs.Trace.{pushed}
+use Rattle.trace.specs.Trace.{pushed, phaseNumber}
+use Rattle.trace.specs.Cells.{registersAfter, memoryAfter}
 use Rattle.trace.specs.Touched.{touchedBy}
 
 -- all that a tick reads or writes
@@ -38,24 +35,6 @@ abbrev pub operandsOf : State → List ℕ → List ℕ → Operands
 operandsOf s m r =
     let w = s .control .ir in
     record { cell = getD m (s .control .mar) 0; x = getD r (digitX w) 0; y = getD r (digitY w) 0; z = getD r (digitZ w) 0; zero = getD r 0 0 }
-
-abbrev pub registersAfter : RegisterWrite → List ℕ → List ℕ
-registersAfter Unwritten r = r
-registersAfter (Written i v) r = set r i v
-
--- the register that is written, 0 for none
-abbrev pub registerOf : RegisterWrite → ℕ
-registerOf Unwritten = 0
-registerOf (Written i v) = i
-
-abbrev pub memoryAfter : BusTransfer → List ℕ → List ℕ
-memoryAfter Idle m = m
-memoryAfter (Read a v) m = m
-memoryAfter (Write a v) m = set m a v
-
--- 0 in a fetch tick, 2 in an execute tick
-abbrev pub phaseNumber : ℕ → ℕ
-phaseNumber t = cond (ltb t 4) 0 2
 
 -- the next tick, and its text
 abbrev pub nextTick : Machine → Tick

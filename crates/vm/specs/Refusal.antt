@@ -23,6 +23,10 @@ partsOk c n t l =
     && (shortTexts (liveLengths (c .«trace_start») (c .«trace_len») l)
     && (leb (c .«touched_len») memoryWords && distinct (take (c .«touched_len») t)))))
 
+-- the same of the code's parts: the image's length, the parts
+abbrev pub sound : ℕ → Parts → Bool
+sound n q = partsOk (q .core) n (q .touched) (q .lengths)
+
 -- the refusal of a call on a machine, 0 where there is none: the parts, and the image's length
 unfoldable pub refusal : Core → ℕ → List ℕ → List ℕ → ℕ
 refusal c n t l = cond (partsOk c n t l) 0 8
@@ -33,6 +37,10 @@ stepRefusalIf ok halted far = cond ok (cond halted 0 (cond far 9 0)) 8
 
 unfoldable pub stepRefusal : Core → ℕ → List ℕ → List ℕ → ℕ
 stepRefusal c n t l = stepRefusalIf (partsOk c n t l) (c .state .control .halted) (overCounted (c .counters))
+
+-- the same of the code's parts
+abbrev pub refusalOn : ℕ → Parts → ℕ
+refusalOn n q = stepRefusal (q .core) n (q .touched) (q .lengths)
 
 -- how long the arrays are, which their types tell
 pub record Sizes (q : Parts) : Type 0 where

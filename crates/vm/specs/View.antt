@@ -4,12 +4,16 @@ use Prim.Native.Nat.{ℕ}
 use mathlib.Core.Path.{_≡_}
 use mathlib.Core.Bool.{true}
 use mathlib.Core.List.{List}
+use denote.Ref.{RefT, now}
+use denote.Triple.Both.{Both}
 use lib.ListN.{take}
 use Rattle.control.specs.Lawful.{lawful}
 use Rattle.guard.specs.declared.stops.RunStop.{RunStop}
 use Rattle.guard.specs.declared.stops.RunStop.the-variants.{Halted, Breakpoint, Fault, Budget, AlreadyHalted, Refused}
 use Rattle.trace.specs.declared.records.TraceRecord.{TraceRecord}
 use Rattle.vm.specs.declared.transfer.Core.{Core}
+use Rattle.vm.specs.declared.instruction.Stepped.{Stepped}
+use Rattle.vm.specs.Instruction.{Steps, stepInstruction}
 use Rattle.vm.specs.Run.{spentState}
 use Rattle.trace.specs.Trace.{liveIn, TraceFit}
 use Rattle.trace.specs.Touched.{TouchFit}
@@ -26,6 +30,22 @@ pub record Parts : Type 0 where
 
 abbrev pub parts : Core → List ℕ → List ℕ → List ℕ → List ℕ → List ℕ → List ℕ → Parts
 parts c m r t k i l = record { core = c; memory = m; registers = r; touched = t; columns = k; numbers = i; lengths = l }
+
+-- an array that is lent to a call: as it came, and as it is left
+abbrev pub Lent : Type 0
+Lent = Both (RefT (List ℕ)) (RefT (List ℕ))
+
+-- the parts that are lent to a call
+abbrev pub given : Core → RefT (List ℕ) → RefT (List ℕ) → RefT (List ℕ) → RefT (List ℕ) → RefT (List ℕ) → RefT (List ℕ) → Parts
+given c m r t k i l = parts c (now m) (now r) (now t) (now k) (now i) (now l)
+
+-- the parts that came to a call
+abbrev pub came : Core → Lent → Lent → Lent → Lent → Lent → Lent → Parts
+came c m r t k i l = parts c (now (m .entry)) (now (r .entry)) (now (t .entry)) (now (k .entry)) (now (i .entry)) (now (l .entry))
+
+-- the parts that it leaves
+abbrev pub left : Core → Lent → Lent → Lent → Lent → Lent → Lent → Parts
+left c m r t k i l = parts c (now (m .exit)) (now (r .exit)) (now (t .exit)) (now (k .exit)) (now (i .exit)) (now (l .exit))
 
 abbrev pub traceOf : Parts → List TraceRecord
 traceOf q = liveIn (q .core .«trace_start») (q .core .«trace_len») (q .columns) (q .numbers) (q .lengths)
@@ -46,6 +66,16 @@ pub record Fit (q : Parts) : Type 0 where
   pub control : lawful (q .core .state .control) ≡ true
   pub touched : TouchFit (q .core .«touched_len») (q .touched)
   pub trace : TraceFit (q .core .«trace_start») (q .core .«trace_len») (q .columns) (q .numbers) (q .lengths)
+
+-- one instruction on the parts, as `step_instruction` makes it: it ends between two
+abbrev pub steppedOn : Stepped → Parts → Steps
+steppedOn r q = record { machine = view q; ticks = r .ticks .0; done = r .done }
+
+pub record Stepping (r : Stepped) (was is : Parts) : Type 0 where
+  pub steps : steppedOn r is ≡ stepInstruction (view was)
+  pub fit : Fit is
+  pub ends : r .core .state .control .tick ≡ 0
+  pub halted : r .halted ≡ r .core .state .control .halted
 
 -- the small part, halted by a spent budget
 abbrev pub spentCore : Core → Core

@@ -6,11 +6,9 @@ ghost use lib.Dec.{eqb};
 ghost use lib.ListN.{length};
 ghost use Rattle.marks.specs.Marks.{marked};
 ghost use Rattle.guard.specs.Input.{inputRefusal};
-ghost use Rattle.vm.specs.View.{parts, view, Fit};
-ghost use Rattle.vm.specs.Guard.{closedCore, guardedRun, guardedOf, endOf};
+ghost use Rattle.vm.specs.View.{Fit, given, came, left};
+ghost use Rattle.vm.specs.Guard.{closedCore, guardedRun, guardedOf, guardedOn, endOn, endOf};
 ghost use Rattle.vm.specs.Calls.{imageWords, isMachine, restOf};
-use crate::instruction::Ticks;
-use crate::instruction::instruction_parts;
 use crate::machine::Machine;
 use crate::machine::image_size;
 use crate::machine::image_words;
@@ -19,6 +17,8 @@ use crate::machine::switched_on;
 use crate::run::Begun;
 use crate::run::exhausted;
 use crate::transfer::Core;
+use crate::whole::forward_parts;
+use crate::whole::next_parts;
 use guard::GuardedStop;
 use guard::Verdict;
 use guard::guard_refusal;
@@ -65,8 +65,13 @@ fn guarded_parts(
     numbers: &mut [u64; TRACE_LIMIT],
     lengths: &mut [u8; TRACE_LIMIT],
 ) -> GuardedCore
-    requires { ⌜ Fit (parts from (now memory) (now registers) (now touched) (now columns) (now numbers) (now lengths)) ⌝ }
-    ensures { λ r. ⌜ (record { stop = r .stop; executed = r .executed .0; guarded = record { machine = view (parts (r .core) (now (memory .exit)) (now (registers .exit)) (now (touched .exit)) (now (columns .exit)) (now (numbers .exit)) (now (lengths .exit))); marks = record { memory = now (marks .exit); registers = now («register_marks» .exit); mdr = r .«mdr_mark» } } } ≡ guardedRun marked (now (breakpoints .entry)) 0 (budget .0) (record { machine = view (parts from (now (memory .entry)) (now (registers .entry)) (now (touched .entry)) (now (columns .entry)) (now (numbers .entry)) (now (lengths .entry))); marks = record { memory = now (marks .entry); registers = now («register_marks» .entry); mdr = 0 } })) × Fit (parts (r .core) (now (memory .exit)) (now (registers .exit)) (now (touched .exit)) (now (columns .exit)) (now (numbers .exit)) (now (lengths .exit))) ⌝ }
+    requires { ⌜ Fit (given from memory registers touched columns numbers lengths) ⌝ }
+    ensures { λ r. ⌜ (
+        let was = came from memory registers touched columns numbers lengths in
+        let is = left (r .core) memory registers touched columns numbers lengths in
+        (endOn r (guardedOn is (now (marks .exit)) (now («register_marks» .exit)) (r .«mdr_mark»))
+        ≡ guardedRun marked (now (breakpoints .entry)) 0 (budget .0) (guardedOn was (now (marks .entry)) (now («register_marks» .entry)) 0))
+        × Fit is) ⌝ }
 {
     let mut s = from;
     let limit = budget.0;
@@ -88,9 +93,9 @@ fn guarded_parts(
             };
         }
         let opened = mark_instruction(word, marks, register_marks);
-        let t = instruction_parts(
+        let t = next_parts(
+            true,
             s,
-            Ticks(7),
             memory,
             registers,
             touched,
@@ -99,9 +104,22 @@ fn guarded_parts(
             lengths,
         );
         let next = t.core;
-        s = next;
-        mdr = opened;
         begun += 1;
+        let f = forward_parts(
+            next,
+            begun,
+            limit,
+            breakpoints,
+            memory,
+            registers,
+            touched,
+            marks,
+            register_marks,
+        );
+        let core = f.core;
+        s = core;
+        mdr = opened;
+        begun += f.made;
     }
 }
 

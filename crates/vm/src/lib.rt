@@ -11,6 +11,7 @@ mod run;
 mod texts;
 mod transfer;
 mod undo;
+mod whole;
 
 pub use guarded::GuardedRun;
 pub use guarded::guarded_run;

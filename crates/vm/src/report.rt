@@ -1,16 +1,15 @@
 // One instruction, as it is called.
 ghost use mathlib.Core.Path.{_≡_};
 ghost use mathlib.Core.Bool.{true};
-ghost use Rattle.vm.specs.View.{parts, view};
-ghost use Rattle.vm.specs.Refusal.{partsOk, stepRefusal, Sizes};
+ghost use Rattle.vm.specs.View.{view, given, came, left};
+ghost use Rattle.vm.specs.Refusal.{sound, refusalOn, Sizes};
 ghost use Rattle.vm.specs.Calls.{haltedTexts, answered, stepOutcome, viewOf, isMachine, stepRefusalOf, restOf};
 use crate::check::step_refusal;
-use crate::instruction::Ticks;
-use crate::instruction::instruction_parts;
 use crate::machine::Machine;
 use crate::micro::has_fault;
 use crate::texts::newest_texts;
 use crate::transfer::Core;
+use crate::whole::next_parts;
 use disasm::disassemble;
 use isa::MEMORY_WORDS;
 use isa::REGISTER_COUNT;
@@ -61,9 +60,11 @@ fn halted_texts() -> TransferPlan
     TransferPlan { texts, count: 1 }
 }
 
+// Tick by tick, or whole where it can be.
 fn step_parts(
     core: Core,
     size: usize,
+    direct: bool,
     memory: &mut [u16; MEMORY_WORDS],
     registers: &mut [u16; REGISTER_COUNT],
     touched: &mut [u8; MEMORY_WORDS],
@@ -71,8 +72,13 @@ fn step_parts(
     numbers: &mut [u64; TRACE_LIMIT],
     lengths: &mut [u8; TRACE_LIMIT],
 ) -> InstructionCore
-    requires { ⌜ Sizes (parts core (now memory) (now registers) (now touched) (now columns) (now numbers) (now lengths)) ⌝ }
-    ensures { λ r. ⌜ (answered (r .refused) (r .report) (view (parts (r .core) (now (memory .exit)) (now (registers .exit)) (now (touched .exit)) (now (columns .exit)) (now (numbers .exit)) (now (lengths .exit)))) ≡ stepOutcome (stepRefusal core size (now (touched .entry)) (now (lengths .entry))) (view (parts core (now (memory .entry)) (now (registers .entry)) (now (touched .entry)) (now (columns .entry)) (now (numbers .entry)) (now (lengths .entry))))) × ((r .refused ≡ 0 → ⊥) → parts (r .core) (now (memory .exit)) (now (registers .exit)) (now (touched .exit)) (now (columns .exit)) (now (numbers .exit)) (now (lengths .exit)) ≡ parts core (now (memory .entry)) (now (registers .entry)) (now (touched .entry)) (now (columns .entry)) (now (numbers .entry)) (now (lengths .entry))) × (partsOk core size (now (touched .entry)) (now (lengths .entry)) ≡ true → partsOk (r .core) size (now (touched .exit)) (now (lengths .exit)) ≡ true) ⌝ }
+    requires { ⌜ Sizes (given core memory registers touched columns numbers lengths) ⌝ }
+    ensures { λ r. ⌜ (
+        let was = came core memory registers touched columns numbers lengths in
+        let is = left (r .core) memory registers touched columns numbers lengths in
+        (answered (r .refused) (r .report) (view is) ≡ stepOutcome (refusalOn size was) (view was))
+        × ((r .refused ≡ 0 → ⊥) → is ≡ was)
+        × (sound size was ≡ true → sound size is ≡ true)) ⌝ }
 {
     let state = core.state;
     let fault = state.fault;
@@ -103,9 +109,9 @@ fn step_parts(
             core,
         };
     }
-    let stepped = instruction_parts(
+    let stepped = next_parts(
+        direct,
         core,
-        Ticks(7),
         memory,
         registers,
         touched,
@@ -162,6 +168,68 @@ impl Machine {
         let r = step_parts(
             core,
             self.image_len,
+            false,
+            &mut memory,
+            &mut registers,
+            &mut touched,
+            &mut columns,
+            &mut numbers,
+            &mut lengths,
+        );
+        let end = r.core;
+        let report = r.report;
+        let state = end.state;
+        let counters = end.counters;
+        let image = self.image;
+        let machine = Machine {
+            memory,
+            registers,
+            state,
+            counters,
+            columns,
+            numbers,
+            lengths,
+            trace_start: end.trace_start,
+            trace_len: end.trace_len,
+            touched,
+            touched_len: end.touched_len,
+            image,
+            image_len: self.image_len,
+            history_len: self.history_len,
+        };
+        InstructionAnswer {
+            refused: r.refused,
+            report,
+            machine,
+        }
+    }
+
+    // The same without ticks, of a machine that stands between two instructions.
+    pub fn direct_instruction(self) -> InstructionAnswer
+        ensures answer { λ r. ⌜ answered (r .refused) (r .report) (viewOf (r .machine)) ≡ stepOutcome (stepRefusalOf self) (viewOf self) ⌝ }
+        ensures rest { λ r. ⌜ restOf (r .machine) ≡ restOf self ⌝ }
+        ensures kept { λ r. ⌜ ((r .refused ≡ 0 → ⊥) → r .machine ≡ self) ⌝ }
+        ensures lasting { λ r. ⌜ (isMachine self ≡ true → isMachine (r .machine) ≡ true) ⌝ }
+    {
+        let state = self.state;
+        let counters = self.counters;
+        let core = Core {
+            state,
+            counters,
+            touched_len: self.touched_len,
+            trace_start: self.trace_start,
+            trace_len: self.trace_len,
+        };
+        let mut registers = self.registers;
+        let mut memory = self.memory;
+        let mut numbers = self.numbers;
+        let mut columns = self.columns;
+        let mut lengths = self.lengths;
+        let mut touched = self.touched;
+        let r = step_parts(
+            core,
+            self.image_len,
+            true,
             &mut memory,
             &mut registers,
             &mut touched,

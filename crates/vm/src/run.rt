@@ -2,14 +2,14 @@
 ghost use mathlib.Core.Path.{_≡_};
 ghost use mathlib.Core.Bool.{true, false};
 ghost use Rattle.vm.specs.Run.{run};
-ghost use Rattle.vm.specs.View.{parts, view, Fit, spentCore, stoppedCore};
-ghost use Rattle.vm.specs.Refusal.{partsOk, Sizes};
-ghost use Rattle.vm.specs.Calls.{runOutcome, viewOf, isMachine, restOf};
+ghost use Rattle.vm.specs.View.{view, Fit, spentCore, stoppedCore, given, came, left};
+ghost use Rattle.vm.specs.Refusal.{sound, Sizes};
+ghost use Rattle.vm.specs.Calls.{ranOn, runOutcome, viewOf, isMachine, restOf};
 use crate::check::parts_ok;
-use crate::instruction::Ticks;
-use crate::instruction::instruction_parts;
 use crate::machine::Machine;
 use crate::transfer::Core;
+use crate::whole::forward_parts;
+use crate::whole::next_parts;
 use control::Fault;
 use control::State;
 use guard::RunStop;
@@ -83,9 +83,14 @@ pub(crate) fn run_parts(
     numbers: &mut [u64; TRACE_LIMIT],
     lengths: &mut [u8; TRACE_LIMIT],
 ) -> RanCore
-    requires { ⌜ Fit (parts from (now memory) (now registers) (now touched) (now columns) (now numbers) (now lengths)) ⌝ }
-    ensures { λ r. ⌜ (record { stop = r .stop; executed = r .executed .0; machine = view (parts (r .core) (now (memory .exit)) (now (registers .exit)) (now (touched .exit)) (now (columns .exit)) (now (numbers .exit)) (now (lengths .exit))) } ≡ run (now (breakpoints .entry)) 0 (budget .0) (view (parts from (now (memory .entry)) (now (registers .entry)) (now (touched .entry)) (now (columns .entry)) (now (numbers .entry)) (now (lengths .entry))))) × Fit (parts (r .core) (now (memory .exit)) (now (registers .exit)) (now (touched .exit)) (now (columns .exit)) (now (numbers .exit)) (now (lengths .exit))) ⌝ }
+    requires { ⌜ Fit (given from memory registers touched columns numbers lengths) ⌝ }
+    ensures { λ r. ⌜ (
+        let was = came from memory registers touched columns numbers lengths in
+        let is = left (r .core) memory registers touched columns numbers lengths in
+        (ranOn r is ≡ run (now (breakpoints .entry)) 0 (budget .0) (view was)) × Fit is) ⌝ }
 {
+    let mut marks = [0u8; MEMORY_WORDS];
+    let mut register_marks = [0u8; REGISTER_COUNT];
     let mut s = from;
     let limit = budget.0;
     let mut begun: u64 = 0;
@@ -101,9 +106,9 @@ pub(crate) fn run_parts(
                 executed: Begun(begun),
             };
         }
-        let t = instruction_parts(
+        let t = next_parts(
+            true,
             s,
-            Ticks(7),
             memory,
             registers,
             touched,
@@ -112,8 +117,21 @@ pub(crate) fn run_parts(
             lengths,
         );
         let next = t.core;
-        s = next;
         begun += 1;
+        let f = forward_parts(
+            next,
+            begun,
+            limit,
+            breakpoints,
+            memory,
+            registers,
+            touched,
+            &mut marks,
+            &mut register_marks,
+        );
+        let core = f.core;
+        s = core;
+        begun += f.made;
     }
 }
 
@@ -130,8 +148,13 @@ fn run_checked(
     numbers: &mut [u64; TRACE_LIMIT],
     lengths: &mut [u8; TRACE_LIMIT],
 ) -> RanCore
-    requires { ⌜ Sizes (parts core (now memory) (now registers) (now touched) (now columns) (now numbers) (now lengths)) ⌝ }
-    ensures { λ r. ⌜ (record { stop = r .stop; executed = r .executed .0; machine = view (parts (r .core) (now (memory .exit)) (now (registers .exit)) (now (touched .exit)) (now (columns .exit)) (now (numbers .exit)) (now (lengths .exit))) } ≡ runOutcome (partsOk core size (now (touched .entry)) (now (lengths .entry))) (now (breakpoints .entry)) (budget .0) (view (parts core (now (memory .entry)) (now (registers .entry)) (now (touched .entry)) (now (columns .entry)) (now (numbers .entry)) (now (lengths .entry))))) × (partsOk core size (now (touched .entry)) (now (lengths .entry)) ≡ false → parts (r .core) (now (memory .exit)) (now (registers .exit)) (now (touched .exit)) (now (columns .exit)) (now (numbers .exit)) (now (lengths .exit)) ≡ parts core (now (memory .entry)) (now (registers .entry)) (now (touched .entry)) (now (columns .entry)) (now (numbers .entry)) (now (lengths .entry))) × (partsOk core size (now (touched .entry)) (now (lengths .entry)) ≡ true → partsOk (r .core) size (now (touched .exit)) (now (lengths .exit)) ≡ true) ⌝ }
+    requires { ⌜ Sizes (given core memory registers touched columns numbers lengths) ⌝ }
+    ensures { λ r. ⌜ (
+        let was = came core memory registers touched columns numbers lengths in
+        let is = left (r .core) memory registers touched columns numbers lengths in
+        (ranOn r is ≡ runOutcome (sound size was) (now (breakpoints .entry)) (budget .0) (view was))
+        × (sound size was ≡ false → is ≡ was)
+        × (sound size was ≡ true → sound size is ≡ true)) ⌝ }
 {
     let good = parts_ok(core, size, touched, lengths);
     if !good {
@@ -171,7 +194,8 @@ pub struct Ran {
 impl Machine {
     // Run until HALT, a fault, a breakpoint or the end of the budget.
     pub fn run(self, budget: Begun, breakpoints: &[u8]) -> Ran
-        ensures answer { λ r. ⌜ record { stop = r .stop; executed = r .executed .0; machine = viewOf (r .machine) } ≡ runOutcome (isMachine self) (now (breakpoints .entry)) (budget .0) (viewOf self) ⌝ }
+        ensures answer { λ r. ⌜ record { stop = r .stop; executed = r .executed .0; machine = viewOf (r .machine) }
+            ≡ runOutcome (isMachine self) (now (breakpoints .entry)) (budget .0) (viewOf self) ⌝ }
         ensures rest { λ r. ⌜ restOf (r .machine) ≡ restOf self ⌝ }
         ensures kept { λ r. ⌜ (isMachine self ≡ false → r .machine ≡ self) ⌝ }
         ensures lasting { λ r. ⌜ (isMachine self ≡ true → isMachine (r .machine) ≡ true) ⌝ }
@@ -230,5 +254,17 @@ impl Machine {
             executed,
             machine,
         }
+    }
+
+    // The same by the direct engine, which `run` is: its instructions are whole ones, but for one that the call finds
+    // under way.
+    pub fn direct_run(self, budget: Begun, breakpoints: &[u8]) -> Ran
+        ensures answer { λ r. ⌜ record { stop = r .stop; executed = r .executed .0; machine = viewOf (r .machine) }
+            ≡ runOutcome (isMachine self) (now (breakpoints .entry)) (budget .0) (viewOf self) ⌝ }
+        ensures rest { λ r. ⌜ restOf (r .machine) ≡ restOf self ⌝ }
+        ensures kept { λ r. ⌜ (isMachine self ≡ false → r .machine ≡ self) ⌝ }
+        ensures lasting { λ r. ⌜ (isMachine self ≡ true → isMachine (r .machine) ≡ true) ⌝ }
+    {
+        self.run(budget, breakpoints)
     }
 }

@@ -1,8 +1,7 @@
 // One register transfer: the arrays lent, the rest by value.
 ghost use mathlib.Core.Path.{_≡_};
 ghost use mathlib.Core.Bool.{false, not, _&&_};
-ghost use Prim.Native.Nat.{_<_};
-ghost use Rattle.vm.specs.Machine.{operandsOf, registerOf, registersAfter, memoryAfter, phaseNumber, microStep, nextDone};
+ghost use Rattle.vm.specs.Machine.{operandsOf, microStep, nextDone};
 ghost use Rattle.vm.specs.View.{parts, view, Fit};
 use control::BusTransfer;
 use control::Counters;
@@ -17,7 +16,10 @@ use tick::tick_of;
 use trace::COLUMNS_LENGTH;
 use trace::Ring;
 use trace::TRACE_LIMIT;
+use trace::phase_number;
 use trace::push_trace;
+use trace::set_register;
+use trace::set_word;
 use trace::touch;
 
 // What is small: passed by value at every level.
@@ -60,39 +62,6 @@ fn read_operands(
         z: registers[z],
         zero: registers[0],
     }
-}
-
-fn set_register(w: RegisterWrite, registers: &mut [u16; REGISTER_COUNT])
-    requires { ⌜ registerOf w < 16 ⌝ }
-    ensures { λ r. ⌜ now (registers .exit) ≡ registersAfter w (now (registers .entry)) ⌝ }
-{
-    match w {
-        RegisterWrite::Unwritten => {}
-        RegisterWrite::Written { register, value } => {
-            let i = register as usize;
-            registers[i] = value;
-        }
-    }
-}
-
-fn set_word(b: BusTransfer, memory: &mut [u16; MEMORY_WORDS])
-    ensures { λ r. ⌜ now (memory .exit) ≡ memoryAfter b (now (memory .entry)) ⌝ }
-{
-    match b {
-        BusTransfer::Idle => {}
-        BusTransfer::Read { .. } => {}
-        BusTransfer::Write { address, value } => {
-            let i = address as usize;
-            memory[i] = value;
-        }
-    }
-}
-
-// The phase of a tick, as the trace has it.
-fn phase_number(tick: u8) -> u8
-    ensures { λ r. ⌜ r ≡ phaseNumber tick ⌝ }
-{
-    if tick < 4 { 0 } else { 2 }
 }
 
 // Whether a tick faulted: it halted, and completed nothing.

@@ -16,8 +16,17 @@ mod c {
             out: *mut u8,
             out_len: usize,
         ) -> i64;
-        pub fn massey_run(image: *const u8, image_len: usize, budget: u64) -> u64;
+        pub fn massey_run(
+            image: *const u8,
+            image_len: usize,
+            ticks: u64,
+            budget: u64,
+            breakpoints: *const u8,
+            breakpoints_len: usize,
+        ) -> u64;
+        pub fn massey_direct_run(image: *const u8, image_len: usize, budget: u64) -> u64;
         pub fn massey_steps(image: *const u8, image_len: usize, n: u64) -> u64;
+        pub fn massey_direct_steps(image: *const u8, image_len: usize, n: u64) -> u64;
         pub fn massey_ticks(image: *const u8, image_len: usize, n: u64) -> u64;
         pub fn massey_checks(image: *const u8, image_len: usize, budget: u64, n: u64) -> u64;
         pub fn massey_pushes(
@@ -59,17 +68,38 @@ pub fn report(input: &[u8], out: &mut [u8]) -> i64 {
     unsafe { c::massey_report(input.as_ptr(), input.len(), out.as_mut_ptr(), out.len()) }
 }
 
-/// The micro operations of a run with that budget and no breakpoints, on a new
-/// machine with the image loaded.
-pub fn run(image: &[u8], budget: u64) -> u64 {
-    // SAFETY: pointer and length are those of a slice lent for the call.
-    unsafe { c::massey_run(image.as_ptr(), image.len(), budget) }
+/// The micro operations of a run with that budget and these breakpoints, after
+/// `ticks` micro operations one at a time, on a new machine with the image loaded.
+pub fn run(image: &[u8], ticks: u64, budget: u64, breakpoints: &[u8]) -> u64 {
+    // SAFETY: pointers and lengths are those of slices lent for the call.
+    unsafe {
+        c::massey_run(
+            image.as_ptr(),
+            image.len(),
+            ticks,
+            budget,
+            breakpoints.as_ptr(),
+            breakpoints.len(),
+        )
+    }
+}
+
+/// The same by the direct engine, from the start and without breakpoints.
+pub fn direct_run(image: &[u8], budget: u64) -> u64 {
+    // SAFETY: as above.
+    unsafe { c::massey_direct_run(image.as_ptr(), image.len(), budget) }
 }
 
 /// The same of `n` instructions, one at a time.
 pub fn steps(image: &[u8], n: u64) -> u64 {
     // SAFETY: as above.
     unsafe { c::massey_steps(image.as_ptr(), image.len(), n) }
+}
+
+/// The same without ticks.
+pub fn direct_steps(image: &[u8], n: u64) -> u64 {
+    // SAFETY: as above.
+    unsafe { c::massey_direct_steps(image.as_ptr(), image.len(), n) }
 }
 
 /// The same of `n` ticks, one at a time.

@@ -1,26 +1,14 @@
--- The marks of every instruction in one form.
+-- The word decodes to what the marks go by.
 -- Assumes nothing.
-use native.Mathlib.Omega.{arith}
-use mathlib.Core.Path.{sym}
+use mathlib.Core.Path.{sym, ap, _∙_}
 use denote.Ref.{now}
-use Rattle.isa.specs.Word.{decodeWord, digitX, digitY}
+use Rattle.isa.specs.declared.opcode.Decoded.{Decoded}
+use Rattle.isa.specs.Word.{decodeWord}
 use Rattle.isa.proofs.Words.{read-off}
-use Rattle.marks.proofs.Moves.{marks-moved, pick-below}
+use Rattle.marks.specs.Marks.{marksOf, executedMarks, instructionMarks}
 use borrow.Author.Needs.{needs}
 use Rattle.marks.proofs.mark_instruction.Statement.{statement}
 use Rattle.marks.proofs.mark_instruction.Tie as tie
-
-cast-x : tie.Need-cast-x
-cast-x c = search needs
-
-cast-y : tie.Need-cast-y
-cast-y c = search needs
-
-cast-z : tie.Need-cast-z
-cast-z c = search needs
-
-cast-at : tie.Need-cast-at
-cast-at c = search needs
 
 from-word-requires : tie.Need-from-word-requires
 from-word-requires c κs = search needs
@@ -28,59 +16,15 @@ from-word-requires c κs = search needs
 opcode-requires : tie.Need-opcode-requires
 opcode-requires c κs = search needs
 
-element-copy-out-second : tie.Need-element-copy-out-second
-element-copy-out-second c = search needs
-
-element-copy-out-third : tie.Need-element-copy-out-third
-element-copy-out-third c = search needs
-
-join-requires : tie.Need-join-requires
-join-requires c κs = search needs
-
-element-copy-out-moves-of : tie.Need-element-copy-out-moves-of
-element-copy-out-moves-of c = search needs
-
-element-copy-out-moves-of-2 : tie.Need-element-copy-out-moves-of-2
-element-copy-out-moves-of-2 c = search needs
-
-moves-of-requires : tie.Need-moves-of-requires
-moves-of-requires c κs = search needs
-
-pick-requires : tie.Need-pick-requires
-pick-requires c κs = search needs
-
-element-write-registers : tie.Need-element-write-registers
-element-write-registers c =
-    let w = c .before .before .before .before .before .before .before .before .before .args .word in
-    omega (arith, c .pick .ensures, pick-below (c .before .moves-of .result .0) 16 {a = digitX w} {b = digitY w} (omega arith) (omega arith))
-
-element-write-memory : tie.Need-element-write-memory
-element-write-memory c = search needs
+mark-decoded-requires : tie.Need-mark-decoded-requires
+mark-decoded-requires c κs = search needs
 
 returns : tie.Need-returns
+unfolding instructionMarks
 returns c =
-    let k = c .before .before .before .before in
-    let o = k .before .before .before in
+    let o = c .before .before .before in
     let a = o .before .before .args in
-    marks-moved (a .word) (now (a .memory)) (now (a .registers)) 0 (sym (read-off decodeWord (a .word) (o .before .from-word .ensures) (o .opcode .ensures))) (k .join .ensures) (c .before .moves-of .ensures) (c .pick .ensures)
+    c .mark-decoded .ensures ∙ ap (λ (d : Decoded). executedMarks d (a .word) (marksOf (now (a .memory)) (now (a .registers)) 0)) (sym (read-off decodeWord (a .word) (o .before .from-word .ensures) (o .opcode .ensures)))
 
 pub mark-instruction-spec : {M : Type 1} → statement M
-mark-instruction-spec =
-    tie.close
-    (tie.spec
-    cast-x
-    cast-y
-    cast-z
-    cast-at
-    from-word-requires
-    opcode-requires
-    element-copy-out-second
-    element-copy-out-third
-    join-requires
-    element-copy-out-moves-of
-    element-copy-out-moves-of-2
-    moves-of-requires
-    pick-requires
-    element-write-registers
-    element-write-memory
-    returns)
+mark-instruction-spec = tie.close (tie.spec from-word-requires opcode-requires mark-decoded-requires returns)

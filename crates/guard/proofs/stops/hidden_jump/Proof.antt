@@ -20,9 +20,8 @@ is-jump-requires c κs = search needs
 
 returns : tie.Need-returns
 returns c =
-    let s = c .before .before .before .before in
-    let w = s .args .word in
     let b = c .before in
+    let w = b .before .before .before .args .word in
     rw (ap isJump (read-off decodeWord w (b .before .before .from-word .ensures) (b .before .opcode .ensures)) ∙ sym (b .is-jump .ensures) ∙ not-true _ (c .if1 .taken))
 
 cast-x : tie.Need-cast-x
@@ -34,23 +33,29 @@ returns-2 c =
     let w = b .before .before .before .args .word in
     rw (ap isJump (read-off decodeWord w (b .before .before .from-word .ensures) (b .before .opcode .ensures)) ∙ sym (b .is-jump .ensures) ∙ not-false _ (c .before .if1 .left), eq-eqb (digitX w) 0 (c .if2 .taken))
 
-element-copy-out-if3 : tie.Need-element-copy-out-if3
-element-copy-out-if3 c = search needs
+element-copy-out-hides : tie.Need-element-copy-out-hides
+element-copy-out-hides c = search needs
+
+hides-requires : tie.Need-hides-requires
+hides-requires c κs = search needs
 
 returns-3 : tie.Need-returns-3
 returns-3 c =
-    let b = c .before .before .before .before in
+    let b = c .before .before .before .before .before in
     let w = b .before .before .before .args .word in
-    rw (ap isJump (read-off decodeWord w (b .before .before .from-word .ensures) (b .before .opcode .ensures)) ∙ sym (b .is-jump .ensures) ∙ not-false _ (c .before .before .before .if1 .left), ne-eqb (digitX w) 0 (c .before .before .if2 .left), ne-eqb _ 0 (c .if3 .taken))
+    rw (ap isJump (read-off decodeWord w (b .before .before .from-word .ensures) (b .before .opcode .ensures)) ∙ sym (b .is-jump .ensures) ∙ not-false _ (c .before .before .before .before .if1 .left), ne-eqb (digitX w) 0 (c .before .before .before .if2 .left), sym (c .before .hides .ensures) ∙ c .if3 .taken)
 
-element-copy-out-result : tie.Need-element-copy-out-result
-element-copy-out-result c = search needs
+element-copy-out-hides-2 : tie.Need-element-copy-out-hides-2
+element-copy-out-hides-2 c = search needs
+
+hides-requires-2 : tie.Need-hides-requires-2
+hides-requires-2 c κs = search needs
 
 returns-4 : tie.Need-returns-4
 returns-4 c =
-    let b = c .before .before .before .before .before in
+    let b = c .before .before .before .before .before .before .before in
     let w = b .before .before .before .args .word in
-    rw (ap isJump (read-off decodeWord w (b .before .before .from-word .ensures) (b .before .opcode .ensures)) ∙ sym (b .is-jump .ensures) ∙ not-false _ (c .before .before .before .before .if1 .left), ne-eqb (digitX w) 0 (c .before .before .before .if2 .left), eq-eqb _ 0 (c .before .if3 .left))
+    rw (ap isJump (read-off decodeWord w (b .before .before .from-word .ensures) (b .before .opcode .ensures)) ∙ sym (b .is-jump .ensures) ∙ not-false _ (c .before .before .before .before .before .before .if1 .left), ne-eqb (digitX w) 0 (c .before .before .before .before .before .if2 .left), sym (c .before .before .before .hides .ensures) ∙ c .before .before .if3 .left) (c .hides2 .ensures)
 
 pub hidden-jump-spec : {M : Type 1} → statement M
 hidden-jump-spec =
@@ -62,7 +67,9 @@ hidden-jump-spec =
     returns
     cast-x
     returns-2
-    element-copy-out-if3
+    element-copy-out-hides
+    hides-requires
     returns-3
-    element-copy-out-result
+    element-copy-out-hides-2
+    hides-requires-2
     returns-4)

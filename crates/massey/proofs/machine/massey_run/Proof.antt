@@ -1,18 +1,15 @@
 -- Assumes nothing.
-use mathlib.Core.Path.{ap}
+use mathlib.Core.Path.{ap, _∙_}
 use denote.Ref.{now}
 use Rattle.vm.specs.Run.{RunEnd}
+use Rattle.vm.specs.Calls.{runOutcome}
 use Rattle.massey.specs.Machine.{madeBy, runCount}
-use Rattle.massey.proofs.Machines.{run-started}
 use borrow.Author.Needs.{needs}
 use Rattle.massey.proofs.machine.massey_run.Statement.{statement}
 use Rattle.massey.proofs.machine.massey_run.Tie as tie
 
-started-requires : tie.Need-started-requires
-started-requires c κs = search needs
-
-slice-aggregate-run : tie.Need-slice-aggregate-run
-slice-aggregate-run c = search needs
+ticked-requires : tie.Need-ticked-requires
+ticked-requires c κs = search needs
 
 run-requires : tie.Need-run-requires
 run-requires c κs = search needs
@@ -20,9 +17,9 @@ run-requires c κs = search needs
 returns : tie.Need-returns
 unfolding runCount
 returns c =
-    let s = c .before .before .before in
-    let a = s .before .before .args in
-    ap (λ (r : RunEnd). madeBy (r .machine)) (run-started (now (a .image)) (a .budget) (s .started .ensures) (c .before .run .ensures .0))
+    let t = c .before .before .ticked .ensures in
+    let a = c .before .before .before .before .before .args in
+    ap (λ (r : RunEnd). madeBy (r .machine)) (c .before .run .ensures .0 ∙ (λ i. runOutcome (t .1 i) (now (a .breakpoints)) (a .budget) (t .0 i)))
 
 pub massey-run-spec : {M : Type 1} → statement M
-massey-run-spec = tie.close (tie.spec started-requires slice-aggregate-run run-requires returns)
+massey-run-spec = tie.close (tie.spec ticked-requires run-requires returns)

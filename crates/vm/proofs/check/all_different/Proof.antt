@@ -61,7 +61,7 @@ loop-again c =
     let b : x < 256 = s .pre .2 (l .i) in
     let m = not-seen (l .seen) p x (l .inv .3) b (l .inv .5) (c .if1 .left) in
     let o = one-more t (l .i) (omega (arith, c .before .before .loop-test .taken, l .inv .1, l .inv .2)) in
-    (omega arith, l .inv .1, l .inv .2, simp length-set (l .inv .3), rw o (distinct-snoc x p (l .inv .4) m), λ a h. rw o (seen-next (l .seen) p x (l .inv .3) b (l .inv .5) a h))
+    (omega arith, l .inv .1, l .inv .2, simp length-set (l .inv .3), rw o (distinct-snoc x p (l .inv .4) m), λ a h. rw o (seen-next (l .seen) p x (l .inv .3) (l .inv .5) a h))
 
 returns-2 : tie.Need-returns-2 Inv-loop μ-loop
 returns-2 c = let l = c .before .loop in let e : l .i ≡ c .before .before .args .n = omega (arith, l .inv .0, c .loop-test .left) in sym (rw e at (l .inv .4))

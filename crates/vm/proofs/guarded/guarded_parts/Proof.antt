@@ -2,22 +2,21 @@
 -- Assumes nothing.
 use Prim.Native.Nat.{ℕ, _≤_, _<_, _-_, _+_}
 use native.Mathlib.Omega.{arith}
-use mathlib.Core.Path.{_≡_, ap, sym, _∙_}
+use mathlib.Core.Path.{_≡_, refl, ap, sym, _∙_}
 use borrow.Author.Needs.{needs}
 use denote.Ref.{now}
-use Rattle.vm.specs.Instruction.{stepInstruction}
-use Rattle.guard.specs.Stops.{stop, go}
-use Rattle.vm.specs.View.{parts, view, Fit}
+use Rattle.guard.specs.Stops.{stop, go, verdictOf}
 use Rattle.marks.specs.Marks.{marked, instructionMarks}
-use Rattle.vm.specs.Guard.{Guarded, guard, guardedRun}
-use Rattle.guard.specs.Stops.{verdictOf}
+use Rattle.vm.specs.View.{parts, view, Fit}
+use Rattle.vm.specs.Guard.{guard, guardedRun, guardedOn}
 use Rattle.vm.proofs.Guards.{going, guard-stops, guard-goes, closed-view, closed-fit}
 use Rattle.vm.proofs.guarded.guarded_parts.Statement.{statement}
 use Rattle.vm.proofs.guarded.guarded_parts.Tie as tie
 
 abbrev Inv-loop : tie.InvT-loop
 Inv-loop breakpoints marks₀ register-marks₀ memory₀ registers₀ touched₀ columns₀ numbers₀ lengths₀ s₀ limit begun₀ mdr₀ marks register-marks memory registers touched columns numbers lengths s begun mdr =
-    (guardedRun marked breakpoints begun (limit - begun) (record { machine = view (parts s memory registers touched columns numbers lengths); marks = record { memory = marks; registers = register-marks; mdr = mdr } }) ≡ guardedRun marked breakpoints 0 limit (record { machine = view (parts s₀ memory₀ registers₀ touched₀ columns₀ numbers₀ lengths₀); marks = record { memory = marks₀; registers = register-marks₀; mdr = 0 } }))
+    (guardedRun marked breakpoints begun (limit - begun) (guardedOn (parts s memory registers touched columns numbers lengths) marks register-marks mdr)
+    ≡ guardedRun marked breakpoints 0 limit (guardedOn (parts s₀ memory₀ registers₀ touched₀ columns₀ numbers₀ lengths₀) marks₀ register-marks₀ 0))
     × (begun ≤ limit)
     × (limit < 18446744073709551616)
     × Fit (parts s memory registers touched columns numbers lengths)
@@ -29,7 +28,7 @@ loop-holds : tie.Need-loop-holds Inv-loop μ-loop
 loop-holds c =
     let a = c .before .args in
     let z : a .budget .0 - 0 ≡ a .budget .0 = omega arith in
-    (ap (λ (j : ℕ). guardedRun marked (now (a .breakpoints)) 0 j (record { machine = view (parts (a .from) (now (a .memory)) (now (a .registers)) (now (a .touched)) (now (a .columns)) (now (a .numbers)) (now (a .lengths))); marks = record { memory = now (a .marks); registers = now (a .register-marks); mdr = 0 } })) z, omega arith, search needs, c .before .pre)
+    (ap (λ (j : ℕ). guardedRun marked (now (a .breakpoints)) 0 j (guardedOn (parts (a .from) (now (a .memory)) (now (a .registers)) (now (a .touched)) (now (a .columns)) (now (a .numbers)) (now (a .lengths))) (now (a .marks)) (now (a .register-marks)) 0)) z, omega arith, search needs, c .before .pre)
 
 cast-pc : tie.Need-cast-pc Inv-loop μ-loop
 cast-pc c = search needs
@@ -56,8 +55,8 @@ returns : tie.Need-returns Inv-loop μ-loop
 returns c =
     let a = c .before .before .before .before .before .before .before .before .before .before .before .before .args in
     let l = c .before .before .before .before .before .before .before .before .before .before .loop in
-    let q = parts (l .s) (l .memory) (l .registers) (l .touched) (l .columns) (l .numbers) (l .lengths) in
-    let g : Guarded = record { machine = view q; marks = record { memory = l .marks; registers = l .register-marks; mdr = l .mdr } } in
+    let q = (parts (l .s) (l .memory) (l .registers) (l .touched) (l .columns) (l .numbers) (l .lengths)) in
+    let g = (guardedOn (parts (l .s) (l .memory) (l .registers) (l .touched) (l .columns) (l .numbers) (l .lengths)) (l .marks) (l .register-marks) (l .mdr)) in
     let b = now (a .breakpoints) in
     let n = a .budget .0 - l .begun in
     let v = c .before .before .verdict .given in
@@ -74,57 +73,58 @@ returns c =
 enum-told : tie.Need-enum-told Inv-loop μ-loop
 enum-told c = search needs
 
+-- the verdict of a turn that goes on, and that it counts against the budget
+went : (c : tie.After-enum-told Inv-loop μ-loop) → let l = c .before .before .before .before .before .before .before .before .loop in let a = c .before .before .before .before .before .before .before .before .before .before .args in guard marked (now (a .breakpoints)) (l .begun) (a .budget .0 - l .begun) (guardedOn (parts (l .s) (l .memory) (l .registers) (l .touched) (l .columns) (l .numbers) (l .lengths)) (l .marks) (l .register-marks) (l .mdr)) ≡ go
+went c = sym (c .before .before .judge .ensures) ∙ ap verdictOf (c .enum-told .given .1)
+
+counts : (c : tie.After-enum-told Inv-loop μ-loop) → c .before .before .before .before .before .before .before .before .loop .begun < c .before .before .before .before .before .before .before .before .before .before .args .budget .0
+counts c =
+    let l = c .before .before .before .before .before .before .before .before .loop in
+    let a = c .before .before .before .before .before .before .before .before .before .before .args in
+    omega (arith, going marked (now (a .breakpoints)) (l .begun) (a .budget .0 - l .begun) (guardedOn (parts (l .s) (l .memory) (l .registers) (l .touched) (l .columns) (l .numbers) (l .lengths)) (l .marks) (l .register-marks) (l .mdr)) (went c) .1, l .inv .1)
+
 mark-instruction-requires : tie.Need-mark-instruction-requires Inv-loop μ-loop
 mark-instruction-requires c κs = search needs
 
-instruction-parts-requires : tie.Need-instruction-parts-requires Inv-loop μ-loop
-instruction-parts-requires c κs =
-    let a = c .before .before .before .before .before .before .before .before .before .before .before .before .before .before .before .before .before .before .before .args in
+next-parts-requires : tie.Need-next-parts-requires Inv-loop μ-loop
+next-parts-requires c κs =
     let l = c .before .before .before .before .before .before .before .before .before .before .before .before .before .before .before .before .before .loop in
-    let q = parts (l .s) (l .memory) (l .registers) (l .touched) (l .columns) (l .numbers) (l .lengths) in
-    let g : Guarded = record { machine = view q; marks = record { memory = l .marks; registers = l .register-marks; mdr = l .mdr } } in
-    let b = now (a .breakpoints) in
-    let n = a .budget .0 - l .begun in
-    let e : guard marked b (l .begun) n g ≡ go = sym (c .before .before .before .before .before .before .before .before .before .before .before .judge .ensures) ∙ ap verdictOf (c .before .before .before .before .before .before .before .before .before .enum-told .given .1) in
-    (omega arith, going marked b (l .begun) n g e .0, l .inv .3)
-
--- a turn counts against the budget
-counts : (c : tie.After-next Inv-loop μ-loop) → let l = c .before .before .before .before .before .before .before .before .before .before .before .before .before .before .before .before .before .before .before .loop in l .begun < c .before .before .before .before .before .before .before .before .before .before .before .before .before .before .before .before .before .before .before .before .before .args .budget .0
-counts c =
-    let a = c .before .before .before .before .before .before .before .before .before .before .before .before .before .before .before .before .before .before .before .before .before .args in
-    let l = c .before .before .before .before .before .before .before .before .before .before .before .before .before .before .before .before .before .before .before .loop in
-    let q = parts (l .s) (l .memory) (l .registers) (l .touched) (l .columns) (l .numbers) (l .lengths) in
-    let g : Guarded = record { machine = view q; marks = record { memory = l .marks; registers = l .register-marks; mdr = l .mdr } } in
-    let b = now (a .breakpoints) in
-    let n = a .budget .0 - l .begun in
-    let e : guard marked b (l .begun) n g ≡ go = sym (c .before .before .before .before .before .before .before .before .before .before .before .before .before .judge .ensures) ∙ ap verdictOf (c .before .before .before .before .before .before .before .before .before .before .before .enum-told .given .1) in
-    omega (arith, going marked b (l .begun) n g e .1, l .inv .1)
+    let a = c .before .before .before .before .before .before .before .before .before .before .before .before .before .before .before .before .before .before .before .args in
+    (going marked (now (a .breakpoints)) (l .begun) (a .budget .0 - l .begun) (guardedOn (parts (l .s) (l .memory) (l .registers) (l .touched) (l .columns) (l .numbers) (l .lengths)) (l .marks) (l .register-marks) (l .mdr)) (went (c .before .before .before .before .before .before .before .before .before)) .0, l .inv .3)
 
 add-begun : tie.Need-add-begun Inv-loop μ-loop
-add-begun c = let l = c .before .before .before .before .before .before .before .before .before .before .before .before .before .before .before .before .before .before .before .loop in omega (arith, counts c, l .inv .2)
+add-begun c = omega (arith, counts (c .before .before .before .before .before .before .before .before .before .before .before), c .before .before .before .before .before .before .before .before .before .before .before .before .before .before .before .before .before .before .before .loop .inv .2)
+
+forward-parts-requires : tie.Need-forward-parts-requires Inv-loop μ-loop
+forward-parts-requires c κs = let t = c .before .before .before .before .before .before .next-parts .ensures in (t .ends, t .fit .touched, omega (arith, counts (c .before .before .before .before .before .before .before .before .before .before .before .before .before .before .before .before)))
+
+add-begun-2 : tie.Need-add-begun-2 Inv-loop μ-loop
+add-begun-2 c = omega (arith, counts (c .before .before .before .before .before .before .before .before .before .before .before .before .before .before .before .before .before .before .before), c .before .before .forward-parts .ensures .within, c .before .before .before .before .before .before .before .before .before .before .before .before .before .before .before .before .before .before .before .before .before .before .before .before .before .before .before .loop .inv .2)
 
 loop-less : tie.Need-loop-less Inv-loop μ-loop
-loop-less c = omega (arith, counts c)
+loop-less c = omega (arith, counts (c .before .before .before .before .before .before .before .before .before .before .before .before .before .before .before .before .before .before .before), c .before .before .forward-parts .ensures .within)
 
 loop-again : tie.Need-loop-again Inv-loop μ-loop
-unfolding stepInstruction instructionMarks
+unfolding instructionMarks
 loop-again c =
-    let a = c .before .before .before .before .before .before .before .before .before .before .before .before .before .before .before .before .before .before .before .before .before .args in
-    let l = c .before .before .before .before .before .before .before .before .before .before .before .before .before .before .before .before .before .before .before .loop in
-    let q = parts (l .s) (l .memory) (l .registers) (l .touched) (l .columns) (l .numbers) (l .lengths) in
-    let g : Guarded = record { machine = view q; marks = record { memory = l .marks; registers = l .register-marks; mdr = l .mdr } } in
+    let l = c .before .before .before .before .before .before .before .before .before .before .before .before .before .before .before .before .before .before .before .before .before .before .before .before .before .before .before .loop in
+    let a = c .before .before .before .before .before .before .before .before .before .before .before .before .before .before .before .before .before .before .before .before .before .before .before .before .before .before .before .before .before .args in
+    let g = (guardedOn (parts (l .s) (l .memory) (l .registers) (l .touched) (l .columns) (l .numbers) (l .lengths)) (l .marks) (l .register-marks) (l .mdr)) in
     let b = now (a .breakpoints) in
     let n = a .budget .0 - l .begun in
-    let e : guard marked b (l .begun) n g ≡ go = sym (c .before .before .before .before .before .before .before .before .before .before .before .before .before .judge .ensures) ∙ ap verdictOf (c .before .before .before .before .before .before .before .before .before .before .before .enum-told .given .1) in
-    let t = c .before .instruction-parts .ensures in
-    let k = c .before .before .before .before .before .before .before .before .mark-instruction .ensures in
+    let e = went (c .before .before .before .before .before .before .before .before .before .before .before .before .before .before .before .before .before .before .before) in
+    let h = counts (c .before .before .before .before .before .before .before .before .before .before .before .before .before .before .before .before .before .before .before) in
+    let k = c .before .before .before .before .before .before .before .before .before .before .before .before .before .before .before .before .mark-instruction in
+    let t = c .before .before .before .before .before .before .before .before .before .next-parts in
+    let f = c .before .before .forward-parts .ensures in
     let z : a .budget .0 - (l .begun + 1) ≡ n - 1 = omega arith in (
-      (λ i. guardedRun marked b (l .begun + 1) (z i) (record { machine = t .0 i .machine; marks = k i }))
+      sym (f .guards _ _ _ (k .result) (t .ensures .fit))
+          ∙ (λ i. guardedRun marked b (l .begun + 1) (z i) (record { machine = t .ensures .steps i .machine; marks = k .ensures i }))
           ∙ sym (guard-goes marked b (l .begun) n g e)
           ∙ l .inv .0,
-      omega (arith, counts c),
+      omega (arith, h, f .within),
       l .inv .2,
-      t .1,
+      f .fits _ _ _ (t .ensures .fit),
     )
 
 pub guarded-parts-spec : {M : Type 1} → statement M
@@ -144,7 +144,9 @@ guarded-parts-spec =
     returns
     enum-told
     mark-instruction-requires
-    instruction-parts-requires
+    next-parts-requires
     add-begun
+    forward-parts-requires
+    add-begun-2
     loop-less
     loop-again)

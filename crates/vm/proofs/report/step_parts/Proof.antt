@@ -44,22 +44,23 @@ returns-2 c =
     let v = view (parts (a .core) (now (a .memory)) (now (a .registers)) (now (a .touched)) (now (a .columns)) (now (a .numbers)) (now (a .lengths))) in
     (stays _ _ (v .state .control .halted) _ (haltedReport v) (instructionReport v) v (stepInstruction v .machine) ((c .before .before) .step-refusal .ensures) ((c .before) .if1 .left) (c .if2 .taken) (still-report v ((c .before .before .before .before .before .before .before) .disassemble .ensures) ((c .before .before .before .before .before .before) .halted-texts .ensures) ((c .before .before .before .before .before) .has-fault .ensures)), λ _. refl, λ t. t)
 
-instruction-parts-requires : tie.Need-instruction-parts-requires
-instruction-parts-requires c κs =
+next-parts-requires : tie.Need-next-parts-requires
+next-parts-requires c κs =
     let s = (c .before .before .before .before .before .before .before .before .before .before .before .before .before .before .before .before) in
     let a = s .args in
     let ok = served-ok (parts (a .core) (now (a .memory)) (now (a .registers)) (now (a .touched)) (now (a .columns)) (now (a .numbers)) (now (a .lengths))) (a .size) _ ((c .before .before .before .before .before .before .before .before) .step-refusal .ensures) ((c .before .before .before .before .before .before .before) .if1 .left) in
-    (omega arith, (c .before .before .before .before .before .before) .if2 .left, fit (parts (a .core) (now (a .memory)) (now (a .registers)) (now (a .touched)) (now (a .columns)) (now (a .numbers)) (now (a .lengths))) (a .size) ok (s .pre))
+    ((c .before .before .before .before .before .before) .if2 .left, fit (parts (a .core) (now (a .memory)) (now (a .registers)) (now (a .touched)) (now (a .columns)) (now (a .numbers)) (now (a .lengths))) (a .size) ok (s .pre))
 
 newest-texts-requires : tie.Need-newest-texts-requires
+unfolding stepInstruction
 newest-texts-requires c κs =
     let s = (c .before .before .before .before .before .before .before .before .before .before .before .before .before .before .before .before .before .before .before .before .before) in
     let a = s .args in
-    let t = (c .before .before .before .before) .instruction-parts in
-    let q = t .ensures .1 .trace in
+    let t = (c .before .before .before .before) .next-parts in
+    let q = t .ensures .fit .trace in
     let ok = served-ok (parts (a .core) (now (a .memory)) (now (a .registers)) (now (a .touched)) (now (a .columns)) (now (a .numbers)) (now (a .lengths))) (a .size) _ ((c .before .before .before .before .before .before .before .before .before .before .before .before .before) .step-refusal .ensures) ((c .before .before .before .before .before .before .before .before .before .before .before .before) .if1 .left) in
     let f = fit (parts (a .core) (now (a .memory)) (now (a .registers)) (now (a .touched)) (now (a .columns)) (now (a .numbers)) (now (a .lengths))) (a .size) ok (s .pre) in
-    let k = ticks-few 7 (t .result .ticks .0) (parts (a .core) (now (a .memory)) (now (a .registers)) (now (a .touched)) (now (a .columns)) (now (a .numbers)) (now (a .lengths))) (t .result .done) (omega arith) f (t .ensures .1) (t .ensures .0) in
+    let k = ticks-few 7 (t .result .ticks .0) (parts (a .core) (now (a .memory)) (now (a .registers)) (now (a .touched)) (now (a .columns)) (now (a .numbers)) (now (a .lengths))) (t .result .done) (omega arith) f (t .ensures .fit) (t .ensures .steps) in
     (k .0, k .1, q .count, q .columns, q .lengths)
 
 returns-3 : tie.Need-returns-3
@@ -69,13 +70,13 @@ returns-3 c =
     let a = s .args in
     let p = parts (a .core) (now (a .memory)) (now (a .registers)) (now (a .touched)) (now (a .columns)) (now (a .numbers)) (now (a .lengths)) in
     let v = view p in
-    let t = (c .before .before .before .before .before) .instruction-parts in
+    let t = (c .before .before .before .before .before) .next-parts in
     let r = (c .before .before .before .before .before .before .before .before .before .before .before .before .before .before) .step-refusal .ensures in
     let z = (c .before .before .before .before .before .before .before .before .before .before .before .before .before) .if1 .left in
     let ok = served-ok p (a .size) _ r z in
     let f = fit p (a .size) ok (s .pre) in
-    let x = c .newest-texts .ensures ∙ ap textsFrom (texts-made 7 (t .result .ticks .0) p (t .result .done) (omega arith) f (t .ensures .1) (t .ensures .0)) in
-    (moves _ _ (v .state .control .halted) _ (haltedReport v) (instructionReport v) v (stepInstruction v .machine) r z ((c .before .before .before .before .before .before .before .before .before .before .before .before) .if2 .left) (made-report v (t .ensures .0) (t .ensures .2) ((c .before .before .before .before .before .before .before .before .before .before .before .before .before .before .before .before .before .before .before) .disassemble .ensures) x) (ap (λ (y : Steps). y .machine) (t .ensures .0)), λ n. absurd (n z), λ k. lasts p _ (a .size) k (t .ensures .1))
+    let x = c .newest-texts .ensures ∙ ap textsFrom (texts-made 7 (t .result .ticks .0) p (t .result .done) (omega arith) f (t .ensures .fit) (t .ensures .steps)) in
+    (moves _ _ (v .state .control .halted) _ (haltedReport v) (instructionReport v) v (stepInstruction v .machine) r z ((c .before .before .before .before .before .before .before .before .before .before .before .before) .if2 .left) (made-report v (t .ensures .steps) (t .ensures .halted) ((c .before .before .before .before .before .before .before .before .before .before .before .before .before .before .before .before .before .before .before) .disassemble .ensures) x) (ap (λ (y : Steps). y .machine) (t .ensures .steps)), λ n. absurd (n z), λ k. lasts p _ (a .size) k (t .ensures .fit))
 
 pub step-parts-spec : {M : Type 1} → statement M
 step-parts-spec =
@@ -90,6 +91,6 @@ step-parts-spec =
     step-refusal-requires
     returns
     returns-2
-    instruction-parts-requires
+    next-parts-requires
     newest-texts-requires
     returns-3)

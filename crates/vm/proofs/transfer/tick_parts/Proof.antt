@@ -11,7 +11,7 @@ use Rattle.trace.specs.Trace.{arraysOf}
 use Rattle.trace.specs.Touched.{placesOf}
 use Rattle.trace.proofs.Rings.{pushed-live}
 use Rattle.trace.proofs.Places.{touched-live}
-use Rattle.vm.proofs.Ticks.{named, sends, text-field, short-text, is-tick, is-done}
+use Rattle.vm.proofs.Ticks.{sends, text-field, short-text, is-tick, is-done}
 use Rattle.vm.proofs.transfer.tick_parts.Statement.{statement}
 use Rattle.vm.proofs.transfer.tick_parts.Tie as tie
 
@@ -34,9 +34,7 @@ count-tick-requires : tie.Need-count-tick-requires
 count-tick-requires c κs = search needs
 
 set-register-requires : tie.Need-set-register-requires
-set-register-requires c κs =
-    let s = (c .before .before .before .before .before .before .before .before .before .before .before) in let a = s .args in
-    rw ((c .before .before .before) .tick-of .ensures) (named (a .s .state .control .tick) (a .s .state) ((c .before .before .before .before .before .before .before) .read-operands .result))
+set-register-requires c κs = search needs
 
 set-word-requires : tie.Need-set-word-requires
 set-word-requires c κs = search needs

@@ -1,13 +1,13 @@
 use Rattle.control.specs.declared.control.RegisterWrite.{RegisterWrite}
-use Rattle.vm.specs.Machine.{registerOf, registersAfter}
+use Rattle.trace.specs.Cells.{registersBy}
 use Prim.Native.Nat.{_-_}
 use native.Mathlib.Omega.{arith}
 use mathlib.Core.Path.{ap, sym}
 use borrow.Author.Needs.{needs}
 use denote.Ref.{now}
 use borrow.Author.Needs.{needs}
-use Rattle.vm.proofs.transfer.set_register.Statement.{statement}
-use Rattle.vm.proofs.transfer.set_register.Tie as tie
+use Rattle.trace.proofs.cells.set_register.Statement.{statement}
+use Rattle.trace.proofs.cells.set_register.Tie as tie
 
 enum-told : tie.Need-enum-told
 enum-told c = search needs
@@ -22,13 +22,13 @@ mul-registers : tie.Need-mul-registers
 mul-registers c = search needs
 
 element-write-registers : tie.Need-element-write-registers
-element-write-registers c = let e = ap registerOf (c .before .w .given .1) in omega (arith, e, c .before .before .before .pre)
+element-write-registers c = search needs
 
 returns : tie.Need-returns
 returns c = search needs
 
 returns-2 : tie.Need-returns-2
-returns-2 c = let a = c .before .before .before .args in ap (λ (w : RegisterWrite). registersAfter w (now (a .registers))) (sym (c .before .w .given .1))
+returns-2 c = let a = c .before .before .before .args in ap (λ (w : RegisterWrite). registersBy w (now (a .registers))) (sym (c .before .w .given .1))
 
 pub set-register-spec : {M : Type 1} → statement M
 set-register-spec =

@@ -1,12 +1,12 @@
 use Rattle.control.specs.declared.control.BusTransfer.{BusTransfer}
-use Rattle.vm.specs.Machine.{memoryAfter}
+use Rattle.trace.specs.Cells.{memoryAfter}
 use Prim.Native.Nat.{_-_}
 use mathlib.Core.Path.{ap, sym}
 use borrow.Author.Needs.{needs}
 use denote.Ref.{now}
 use borrow.Author.Needs.{needs}
-use Rattle.vm.proofs.transfer.set_word.Statement.{statement}
-use Rattle.vm.proofs.transfer.set_word.Tie as tie
+use Rattle.trace.proofs.cells.set_word.Statement.{statement}
+use Rattle.trace.proofs.cells.set_word.Tie as tie
 
 enum-told : tie.Need-enum-told
 enum-told c = search needs

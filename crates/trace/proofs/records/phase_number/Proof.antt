@@ -1,6 +1,6 @@
 use borrow.Author.Tests.{lt-ltb, le-ltb}
-use Rattle.vm.proofs.transfer.phase_number.Statement.{statement}
-use Rattle.vm.proofs.transfer.phase_number.Tie as tie
+use Rattle.trace.proofs.records.phase_number.Statement.{statement}
+use Rattle.trace.proofs.records.phase_number.Tie as tie
 
 returns : tie.Need-returns
 returns c = simp (lt-ltb _ _ (c .if1 .taken))

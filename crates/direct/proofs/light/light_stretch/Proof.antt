@@ -1,0 +1,141 @@
+-- The invariant: what is left of the stretch is the whole.
+-- Assumes nothing.
+use Prim.Native.Nat.{ℕ, _+_, _-_, _≤_, _<_, zero-le}
+use native.Mathlib.Omega.{arith}
+use mathlib.Core.Path.{_≡_, ap, sym, _∙_}
+use borrow.Author.Needs.{needs}
+use borrow.Author.Tests.{not-true, not-false}
+use denote.Ref.{now}
+use lib.ListN.{getD}
+use Rattle.isa.specs.declared.opcode.Decoded.{Decoded}
+use Rattle.isa.specs.declared.opcode.Decoded.the-variants.{Known}
+use Rattle.isa.specs.Word.{decodeWord}
+use Rattle.isa.proofs.Words.{read-off}
+use Rattle.direct.specs.Work.{counts, halts}
+use Rattle.direct.specs.Lane.{slotsOf, slotWord, slotStep, slotNext, lastingOf, stretch}
+use Rattle.direct.proofs.Lanes.{next-is, lasts-known, lasts-counts}
+use Rattle.direct.proofs.Stretches.{stretch-turn, stretch-stop, stretch-end}
+use Rattle.direct.proofs.light.light_stretch.Statement.{statement}
+use Rattle.direct.proofs.light.light_stretch.Tie as tie
+
+abbrev Inv-loop : tie.InvT-loop
+Inv-loop limit breaks memory₀ registers₀ touched₀ seen₀ marks₀ register-marks₀ s₀ made₀ memory registers touched seen marks register-marks s made =
+    (stretch breaks (limit - made) made (slotsOf s memory registers touched seen marks register-marks) ≡ stretch breaks limit 0 (slotsOf s₀ memory₀ registers₀ touched₀ seen₀ marks₀ register-marks₀))
+    × (made ≤ limit)
+    × (limit < 18446744073709551616)
+
+abbrev μ-loop : tie.MeasureT-loop
+μ-loop limit breaks memory₀ registers₀ touched₀ seen₀ marks₀ register-marks₀ s₀ made₀ memory registers touched seen marks register-marks s made = limit - made
+
+loop-holds : tie.Need-loop-holds Inv-loop μ-loop
+loop-holds c =
+    let a = c .args in
+    let z : a .limit - 0 ≡ a .limit = omega arith in
+    (ap (λ (n : ℕ). stretch (now (a .breaks)) n 0 (slotsOf (a .from) (now (a .memory)) (now (a .registers)) (now (a .touched)) (now (a .seen)) (now (a .marks)) (now (a .register-marks)))) z, zero-le, search needs)
+
+cast-at : tie.Need-cast-at Inv-loop μ-loop
+cast-at c = search needs
+
+mul-word : tie.Need-mul-word Inv-loop μ-loop
+mul-word c = search needs
+
+element-copy-out-word : tie.Need-element-copy-out-word Inv-loop μ-loop
+element-copy-out-word c = search needs
+
+element-copy-out-may-go : tie.Need-element-copy-out-may-go Inv-loop μ-loop
+element-copy-out-may-go c = search needs
+
+element-copy-out-may-go-2 : tie.Need-element-copy-out-may-go-2 Inv-loop μ-loop
+element-copy-out-may-go-2 c = search needs
+
+may-go-requires : tie.Need-may-go-requires Inv-loop μ-loop
+may-go-requires c κs = search needs
+
+returns : tie.Need-returns Inv-loop μ-loop
+returns c =
+    let l = c .before .before .before .before .before .before .before .loop in
+    let a = c .before .before .before .before .before .before .before .before .args in
+    sym (stretch-stop (now (a .breaks)) (a .limit) (l .made) (slotsOf (l .s) (l .memory) (l .registers) (l .touched) (l .seen) (l .marks) (l .register-marks)) (sym (c .before .may-go .ensures) ∙ not-true _ (c .if1 .taken))) ∙ l .inv .0
+
+from-word-requires : tie.Need-from-word-requires Inv-loop μ-loop
+from-word-requires c κs = search needs
+
+opcode-requires : tie.Need-opcode-requires Inv-loop μ-loop
+opcode-requires c κs = search needs
+
+lasting-requires : tie.Need-lasting-requires Inv-loop μ-loop
+lasting-requires c κs = search needs
+
+enum-known-decoded : tie.Need-enum-known-decoded Inv-loop μ-loop
+enum-known-decoded c = search needs
+
+enum-told : tie.Need-enum-told Inv-loop μ-loop
+enum-told c = search needs
+
+returns-2 : tie.Need-returns-2 Inv-loop μ-loop
+returns-2 c =
+    let l = c .before .before .before .before .before .before .before .before .before .before .before .before .loop in
+    let a = c .before .before .before .before .before .before .before .before .before .before .before .before .before .args in
+    let w = getD (l .memory) (l .s .pc) 0 in
+    sym (stretch-end (now (a .breaks)) (a .limit) (l .made) (slotsOf (l .s) (l .memory) (l .registers) (l .touched) (l .seen) (l .marks) (l .register-marks)) (sym (c .before .before .before .before .before .before .may-go .ensures) ∙ not-false _ (c .before .before .before .before .before .if1 .left))
+    (ap counts (ap lastingOf (read-off decodeWord w (c .before .before .before .before .from-word .ensures) (c .before .before .before .opcode .ensures)) ∙ sym (c .before .before .lasting .ensures) ∙ c .enum-told .given .1)))
+    ∙ l .inv .0
+
+light-known-requires : tie.Need-light-known-requires Inv-loop μ-loop
+light-known-requires c κs = search needs
+
+-- the word runs on, by its opcode; and the test was passed
+known : (c : tie.After-light-known Inv-loop μ-loop) → let l = c .before .before .before .before .before .before .before .before .before .before .before .before .before .before .before .before .before .before .before .before .loop in lastingOf (decodeWord (getD (l .memory) (l .s .pc) 0)) ≡ Known (c .before .before .before .before .before .before .before .before .decoded .given .0 .0)
+known c =
+    let l = c .before .before .before .before .before .before .before .before .before .before .before .before .before .before .before .before .before .before .before .before .loop in
+    ap lastingOf (read-off decodeWord (getD (l .memory) (l .s .pc) 0) (c .before .before .before .before .before .before .before .before .before .before .before .before .from-word .ensures) (c .before .before .before .before .before .before .before .before .before .before .before .opcode .ensures)) ∙ sym (c .before .before .before .before .before .before .before .before .before .before .lasting .ensures) ∙ c .before .before .before .before .before .before .before .before .decoded .given .1
+
+turn : (c : tie.After-light-known Inv-loop μ-loop) → let l = c .before .before .before .before .before .before .before .before .before .before .before .before .before .before .before .before .before .before .before .before .loop in let a = c .before .before .before .before .before .before .before .before .before .before .before .before .before .before .before .before .before .before .before .before .before .args in let s = (slotsOf (l .s) (l .memory) (l .registers) (l .touched) (l .seen) (l .marks) (l .register-marks)) in
+    (l .made < a .limit) × (stretch (now (a .breaks)) (a .limit - l .made) (l .made) s ≡ stretch (now (a .breaks)) (a .limit - (l .made + 1)) (l .made + 1) (slotStep (decodeWord (slotWord s)) (slotWord s) s))
+turn c =
+    let l = c .before .before .before .before .before .before .before .before .before .before .before .before .before .before .before .before .before .before .before .before .loop in
+    let a = c .before .before .before .before .before .before .before .before .before .before .before .before .before .before .before .before .before .before .before .before .before .args in
+    stretch-turn (now (a .breaks)) (a .limit) (l .made) (slotsOf (l .s) (l .memory) (l .registers) (l .touched) (l .seen) (l .marks) (l .register-marks)) (sym (c .before .before .before .before .before .before .before .before .before .before .before .before .before .before .may-go .ensures) ∙ not-false _ (c .before .before .before .before .before .before .before .before .before .before .before .before .before .if1 .left)) (ap counts (known c))
+
+add-made : tie.Need-add-made Inv-loop μ-loop
+add-made c = let h = turn c .0 in omega (arith, h, c .before .before .before .before .before .before .before .before .before .before .before .before .before .before .before .before .before .before .before .before .loop .inv .2)
+
+loop-less : tie.Need-loop-less Inv-loop μ-loop
+loop-less c = let h = turn c .0 in omega (arith, h)
+
+loop-again : tie.Need-loop-again Inv-loop μ-loop
+loop-again c =
+    let l = c .before .before .before .before .before .before .before .before .before .before .before .before .before .before .before .before .before .before .before .before .loop in
+    let a = c .before .before .before .before .before .before .before .before .before .before .before .before .before .before .before .before .before .before .before .before .before .args in
+    let h = turn c in
+    let w = getD (l .memory) (l .s .pc) 0 in
+    let s = (slotsOf (l .s) (l .memory) (l .registers) (l .touched) (l .seen) (l .marks) (l .register-marks)) in
+    let o = c .before .before .before .before .before .before .before .before .decoded .given .0 .0 in
+    let d = lasts-known (decodeWord w) o (known c) in
+    let e : slotNext o w s ≡ slotStep (decodeWord w) w s = next-is o w s (ap halts (sym d) ∙ lasts-counts (decodeWord w) (ap counts (known c))) ∙ ap (λ (x : Decoded). slotStep x w s) (sym d) in
+    (ap (stretch (now (a .breaks)) (a .limit - (l .made + 1)) (l .made + 1)) (c .light-known .ensures ∙ e) ∙ sym (h .1) ∙ l .inv .0, omega (arith, h .0), l .inv .2)
+
+pub light-stretch-spec : {M : Type 1} → statement M
+light-stretch-spec =
+    tie.close
+    (tie.spec
+    Inv-loop
+    μ-loop
+    loop-holds
+    cast-at
+    mul-word
+    element-copy-out-word
+    element-copy-out-may-go
+    element-copy-out-may-go-2
+    may-go-requires
+    returns
+    from-word-requires
+    opcode-requires
+    lasting-requires
+    enum-known-decoded
+    enum-told
+    returns-2
+    light-known-requires
+    add-made
+    loop-less
+    loop-again)

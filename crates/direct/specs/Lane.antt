@@ -1,0 +1,187 @@
+-- The code's loop over instructions without records (02, Change 11): what is small by value, the arrays lent, marks beside the words.
+-- Assumes nothing.
+use Prim.Native.Nat.{ℕ, zero, suc, _+_, _-_, _*_, _/_, _%_, _^_}
+use mathlib.Core.Bool.{Bool, true, false, cond, _&&_}
+use mathlib.Core.List.{List}
+use denote.Ref.{RefT, now}
+use denote.Triple.Both.{Both}
+use lib.Dec.{eqb, leb}
+use lib.ListN.{take, getD}
+use Rattle.isa.specs.declared.opcode.Opcode.{Opcode}
+use Rattle.isa.specs.declared.opcode.Opcode.the-variants.{LoadImmediate, LoadRegister, LoadMemory, StoreMemory, Add, Negate, ShiftRight, ShiftLeft, And, Or, Xor, Jump, Halt}
+use Rattle.isa.specs.declared.opcode.Decoded.{Decoded}
+use Rattle.isa.specs.declared.opcode.Decoded.the-variants.{Known, Unknown}
+use Rattle.isa.specs.Word.{decodeWord}
+use Rattle.control.specs.declared.control.Fault.{Fault}
+use Rattle.marks.specs.Marks.{Marks, marksOf, executedMarks}
+use Rattle.control.specs.declared.counters.Counters.{Counters}
+use Rattle.control.specs.Count.{counterLimit}
+use Rattle.guard.specs.Stops.{passes}
+use Rattle.trace.specs.Cells.{registersBy, memoryAfter}
+use Rattle.direct.specs.declared.work.Work.{Work}
+use Rattle.direct.specs.declared.light.Lane.{Lane}
+use Rattle.direct.specs.declared.light.Made.{Made}
+use Rattle.direct.specs.Work.{operands, worked, counts, countWhole}
+use Rattle.direct.specs.Light.{Light}
+use Rattle.direct.specs.Table.{Noted, notedOf, tableOf, touchSeen}
+
+-- what is small, memory, registers, the touched addresses with their table, the marks of words and registers
+pub record Slots : Type 0 where
+  pub lane : Lane
+  pub memory : List ℕ
+  pub registers : List ℕ
+  pub touched : List ℕ
+  pub seen : List ℕ
+  pub marks : List ℕ
+  pub registerMarks : List ℕ
+
+abbrev pub slotsOf : Lane → List ℕ → List ℕ → List ℕ → List ℕ → List ℕ → List ℕ → Slots
+slotsOf s m r t n x y = record { lane = s; memory = m; registers = r; touched = t; seen = n; marks = x; registerMarks = y }
+
+-- an array that is lent to a call: as it came, and as it is left
+abbrev pub Lent : Type 0
+Lent = Both (RefT (List ℕ)) (RefT (List ℕ))
+
+-- the slots that came to a call, and those that it leaves
+abbrev pub came : Lane → Lent → Lent → Lent → Lent → Lent → Lent → Slots
+came s m r t n x y = slotsOf s (now (m .entry)) (now (r .entry)) (now (t .entry)) (now (n .entry)) (now (x .entry)) (now (y .entry))
+
+abbrev pub left : Lane → Lent → Lent → Lent → Lent → Lent → Lent → Slots
+left s m r t n x y = slotsOf s (now (m .exit)) (now (r .exit)) (now (t .exit)) (now (n .exit)) (now (x .exit)) (now (y .exit))
+
+-- ---- one instruction
+
+-- after the work k of a word, with the addresses n noted and the marks q
+abbrev pub slotsBy : Decoded → Slots → Work → Noted → Marks → Slots
+slotsBy d s k n q = record {
+  lane = record { counters = countWhole d (k .bus) (s .lane .counters); «touched_len» = n .places .count; alu = k .alu; pc = k .pc };
+  memory = memoryAfter (k .bus) (s .memory);
+  registers = registersBy (k .write) (s .registers);
+  touched = n .places .items;
+  seen = n .seen;
+  marks = q .memory;
+  registerMarks = q .registers;
+}
+
+-- the word w, decoded
+unfoldable pub slotStep : Decoded → ℕ → Slots → Slots
+slotStep d w s =
+    let k = worked d w ((s .lane .pc + 1) % 2 ^ 8) (s .lane .alu) (operands w (s .memory) (s .registers)) in
+    slotsBy d s k (touchSeen (k .bus) (notedOf (s .lane .«touched_len») (s .touched) (s .seen))) (executedMarks d w (marksOf (s .marks) (s .registerMarks) 0))
+
+-- the same by the opcode; HALT, which never passes, moves nothing
+abbrev pub slotNext : Opcode → ℕ → Slots → Slots
+slotNext LoadImmediate w s = slotStep (Known LoadImmediate) w s
+slotNext LoadRegister w s = slotStep (Known LoadRegister) w s
+slotNext LoadMemory w s = slotStep (Known LoadMemory) w s
+slotNext StoreMemory w s = slotStep (Known StoreMemory) w s
+slotNext Add w s = slotStep (Known Add) w s
+slotNext Negate w s = slotStep (Known Negate) w s
+slotNext ShiftRight w s = slotStep (Known ShiftRight) w s
+slotNext ShiftLeft w s = slotStep (Known ShiftLeft) w s
+slotNext And w s = slotStep (Known And) w s
+slotNext Or w s = slotStep (Known Or) w s
+slotNext Xor w s = slotStep (Known Xor) w s
+slotNext Jump w s = slotStep (Known Jump) w s
+slotNext Halt w s = s
+
+-- ---- a stretch of them
+
+-- what a word decodes to where the run goes on behind it: HALT ends a run, as a word without an opcode does
+abbrev pub lastingOf : Decoded → Decoded
+lastingOf (Known LoadImmediate) = Known LoadImmediate
+lastingOf (Known LoadRegister) = Known LoadRegister
+lastingOf (Known LoadMemory) = Known LoadMemory
+lastingOf (Known StoreMemory) = Known StoreMemory
+lastingOf (Known Add) = Known Add
+lastingOf (Known Negate) = Known Negate
+lastingOf (Known ShiftRight) = Known ShiftRight
+lastingOf (Known ShiftLeft) = Known ShiftLeft
+lastingOf (Known And) = Known And
+lastingOf (Known Or) = Known Or
+lastingOf (Known Xor) = Known Xor
+lastingOf (Known Jump) = Known Jump
+lastingOf (Known Halt) = Unknown
+lastingOf Unknown = Unknown
+
+-- how many were made, and the slots after them
+pub record Stretch : Type 0 where
+  pub made : ℕ
+  pub slots : Slots
+
+abbrev pub stretched : ℕ → Slots → Stretch
+stretched k s = record { made = k; slots = s }
+
+-- the second value where the test holds; it waits to be asked for
+abbrev pub onlyIf : {A : Type 0} → Bool → A → (Unit {0} → A) → A
+onlyIf false a f = a
+onlyIf true a f = f tt
+
+abbrev pub slotWord : Slots → ℕ
+slotWord s = getD (s .memory) (s .lane .pc) 0
+
+-- whether the next one passes: the table of breakpoints, whether more are asked for
+abbrev pub goesOn : List ℕ → Bool → Slots → Bool
+goesOn b more s = let pc = s .lane .pc in passes more (getD b pc 0) (getD (s .marks) pc 0) (slotWord s) (s .registerMarks)
+
+-- as long as they pass and run on, at most n more where k were made
+unfoldable pub stretch : List ℕ → ℕ → ℕ → Slots → Stretch
+stretch b zero k s = stretched k s
+stretch b (suc n) k s =
+    onlyIf (goesOn b true s && counts (lastingOf (decodeWord (slotWord s)))) (stretched k s) (λ u. stretch b n (k + 1) (slotStep (decodeWord (slotWord s)) (slotWord s) s))
+
+-- ---- stretch after stretch, each made whole: what is kept stays one behind
+
+abbrev pub stretchLength : ℕ
+stretchLength = 256
+
+-- no counter is near its end before any instruction of a stretch, none of which counts more than 7
+abbrev pub roomy : ℕ → Bool
+roomy n = leb n (counterLimit - 7 * stretchLength)
+
+-- how long the next stretch may be: none where a counter comes near its end in it
+abbrev pub lengthFor : Counters → ℕ
+lengthFor k = cond (roomy (k .instructions)) (cond (roomy (k .«micro_operations»)) (cond (roomy (k .«bus_reads»)) (cond (roomy (k .«bus_writes»)) stretchLength 0) 0) 0) 0
+
+-- what a call leaves: the table of touched addresses is its own
+pub record Ahead : Type 0 where
+  pub made : ℕ
+  pub lane : Lane
+  pub memory : List ℕ
+  pub registers : List ℕ
+  pub touched : List ℕ
+  pub marks : List ℕ
+  pub registerMarks : List ℕ
+
+abbrev pub ahead : ℕ → Slots → Ahead
+ahead k s = record { made = k; lane = s .lane; memory = s .memory; registers = s .registers; touched = s .touched; marks = s .marks; registerMarks = s .registerMarks }
+
+abbrev pub aheadOf : Made → List ℕ → List ℕ → List ℕ → List ℕ → List ℕ → Ahead
+aheadOf r m w t x y = record { made = r .made; lane = r .lane; memory = m; registers = w; touched = t; marks = x; registerMarks = y }
+
+-- at most n stretches more, where k instructions were made: the table of breakpoints
+unfoldable pub leads : List ℕ → ℕ → Ahead → ℕ → Slots → Ahead
+leads b zero kept k s = kept
+leads b (suc n) kept k s =
+    let t = stretch b (lengthFor (s .lane .counters)) 0 s in
+    onlyIf (eqb (t .made) stretchLength) kept (λ u. leads b n (ahead k s) (k + stretchLength) (t .slots))
+
+-- at most n instructions, with these breakpoints
+unfoldable pub forward : List ℕ → ℕ → Lane → List ℕ → List ℕ → List ℕ → List ℕ → List ℕ → Ahead
+forward b n s m r t x y = let start = slotsOf s m r t (tableOf (take (s .«touched_len») t)) x y in leads (tableOf b) (n / stretchLength) (ahead 0 start) 0 start
+
+-- ---- the light machine, with the fault that it has, and its marks
+
+abbrev pub lightIn : Fault → Slots → Light
+lightIn f s = record {
+  pc = s .lane .pc;
+  fault = f;
+  alu = s .lane .alu;
+  counters = s .lane .counters;
+  memory = s .memory;
+  registers = s .registers;
+  touched = take (s .lane .«touched_len») (s .touched);
+}
+
+abbrev pub marksIn : Slots → Marks
+marksIn s = marksOf (s .marks) (s .registerMarks) 0

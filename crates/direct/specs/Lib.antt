@@ -1,0 +1,5 @@
+pub mod Work
+pub mod Light
+pub mod Table
+pub mod Lane
+pub mod Whole

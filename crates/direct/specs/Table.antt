@@ -1,0 +1,47 @@
+-- A table with 1 for each byte of a list, in place of a search: breakpoints, and the touched addresses.
+-- Assumes nothing.
+use Prim.Native.Nat.{ℕ, _+_, _<_}
+use mathlib.Core.Path.{_≡_}
+use mathlib.Core.Bool.{cond}
+use mathlib.Core.List.{List, [], _∷_}
+use lib.Dec.{eqb, ltb}
+use lib.ListN.{length, getD, set, replicate}
+use Rattle.isa.specs.Sizes.{memoryWords}
+use Rattle.encoding.specs.Bytes.{member}
+use Rattle.control.specs.declared.control.BusTransfer.{BusTransfer}
+use Rattle.control.specs.declared.control.BusTransfer.the-variants.{Idle, Read, Write}
+use Rattle.trace.specs.Touched.{Places, placesOf}
+
+-- a table with the bytes of one list more
+unfoldable pub tableFrom : List ℕ → List ℕ → List ℕ
+tableFrom t [] = t
+tableFrom t (x ∷ xs) = tableFrom (set t x 1) xs
+
+abbrev pub tableOf : List ℕ → List ℕ
+tableOf p = tableFrom (replicate memoryWords 0) p
+
+-- what it says
+pub record Table (p seen : List ℕ) : Type 0 where
+  pub long : length seen ≡ memoryWords
+  pub says : (a : ℕ) → a < memoryWords → getD seen a 0 ≡ cond (member a p) 1 0
+
+-- ---- the touched addresses with their table
+
+pub record Noted : Type 0 where
+  pub places : Places
+  pub seen : List ℕ
+
+abbrev pub notedOf : ℕ → List ℕ → List ℕ → Noted
+notedOf n t s = record { places = placesOf n t; seen = s }
+
+-- an address written into the next place, unless the table has it or there is none
+unfoldable pub noteSeen : ℕ → Noted → Noted
+noteSeen a q =
+    cond (eqb (getD (q .seen) a 0) 1)
+    q
+    (cond (ltb (q .places .count) memoryWords) (notedOf (q .places .count + 1) (set (q .places .items) (q .places .count) a) (set (q .seen) a 1)) q)
+
+abbrev pub touchSeen : BusTransfer → Noted → Noted
+touchSeen Idle q = q
+touchSeen (Read a v) q = q
+touchSeen (Write a v) q = noteSeen a q

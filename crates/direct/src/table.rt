@@ -1,0 +1,67 @@
+// A table with 1 for each byte of a list, asked for before or in each instruction: breakpoints, and the touched
+// addresses.
+ghost use mathlib.Core.Path.{_≡_};
+ghost use lib.ListN.{take};
+ghost use Rattle.direct.specs.Table.{tableOf, notedOf, noteSeen, touchSeen};
+use control::BusTransfer;
+use isa::MEMORY_WORDS;
+
+pub(crate) fn table_of(items: &[u8]) -> [u8; MEMORY_WORDS]
+    ensures { λ r. ⌜ r ≡ tableOf (now (items .entry)) ⌝ }
+{
+    let mut table = [0u8; MEMORY_WORDS];
+    let mut i = 0;
+    while i < items.len() {
+        let a = items[i] as usize;
+        table[a] = 1;
+        i += 1;
+    }
+    table
+}
+
+// Of the first n; of all where there are fewer.
+pub(crate) fn first_table(items: &[u8], n: usize) -> [u8; MEMORY_WORDS]
+    ensures { λ r. ⌜ r ≡ tableOf (take n (now (items .entry))) ⌝ }
+{
+    if n < items.len() {
+        return table_of(&items[..n]);
+    }
+    table_of(items)
+}
+
+// The address `a` is added, once; 256 are all there are.
+fn note_seen(
+    a: u8,
+    items: &mut [u8; MEMORY_WORDS],
+    n: usize,
+    seen: &mut [u8; MEMORY_WORDS],
+) -> usize
+    ensures { λ r. ⌜ notedOf r (now (items .exit)) (now (seen .exit)) ≡ noteSeen a (notedOf n (now (items .entry)) (now (seen .entry))) ⌝ }
+{
+    let at = a as usize;
+    if seen[at] == 1 {
+        return n;
+    }
+    if MEMORY_WORDS <= n {
+        return n;
+    }
+    seen[at] = 1;
+    items[n] = a;
+    n + 1
+}
+
+// `touch` of the trace, with a table in place of a search.
+pub(crate) fn touch_seen(
+    bus: BusTransfer,
+    items: &mut [u8; MEMORY_WORDS],
+    n: usize,
+    seen: &mut [u8; MEMORY_WORDS],
+) -> usize
+    ensures { λ r. ⌜ notedOf r (now (items .exit)) (now (seen .exit)) ≡ touchSeen bus (notedOf n (now (items .entry)) (now (seen .entry))) ⌝ }
+{
+    match bus {
+        BusTransfer::Idle => n,
+        BusTransfer::Read { .. } => n,
+        BusTransfer::Write { address, value: _ } => note_seen(address, items, n, seen),
+    }
+}
