@@ -18,6 +18,10 @@ pub enum Command {
     Set(u8, u16, u64),
     /// A byte of the store: its offset and its value.
     Byte(u32, u8),
+    /// An instruction of the direct engine.
+    Direct,
+    /// A run of the direct engine.
+    DirectRun(u64, Vec<u8>),
 }
 
 /// The numbers of the fields that `Command::Set` knows.
@@ -48,7 +52,7 @@ pub mod field {
 }
 
 /// The first byte that is no command.
-pub const END: u8 = 0x0D;
+pub const END: u8 = 0x0F;
 
 impl Command {
     /// The byte that names the command.
@@ -67,6 +71,17 @@ impl Command {
             Command::Dump => 0x0A,
             Command::Set(..) => 0x0B,
             Command::Byte(..) => 0x0C,
+            Command::Direct => 0x0D,
+            Command::DirectRun(..) => 0x0E,
+        }
+    }
+
+    /// The same by the direct engine, where it has such a call.
+    pub fn direct(&self) -> Command {
+        match self {
+            Command::Step => Command::Direct,
+            Command::Run(budget, breakpoints) => Command::DirectRun(*budget, breakpoints.clone()),
+            other => other.clone(),
         }
     }
 
@@ -75,7 +90,9 @@ impl Command {
         let mut bytes = vec![self.number()];
         match self {
             Command::Load(words) => put_words(&mut bytes, words),
-            Command::Run(budget, breakpoints) => put_run(&mut bytes, *budget, breakpoints),
+            Command::Run(budget, breakpoints) | Command::DirectRun(budget, breakpoints) => {
+                put_run(&mut bytes, *budget, breakpoints)
+            }
             Command::Set(field, index, value) => put_field(&mut bytes, *field, *index, *value),
             Command::Byte(offset, value) => {
                 bytes.extend(offset.to_be_bytes());
@@ -85,6 +102,20 @@ impl Command {
         }
         bytes
     }
+}
+
+/// The commands, and the same by the direct engine where that is another list.
+pub fn by_both_engines(commands: Vec<Command>) -> Vec<Vec<Command>> {
+    let direct = by_direct_engine(&commands);
+    match direct == commands {
+        true => vec![commands],
+        false => vec![commands, direct],
+    }
+}
+
+/// The commands, with the direct engine's calls for those that it has.
+pub fn by_direct_engine(commands: &[Command]) -> Vec<Command> {
+    commands.iter().map(Command::direct).collect()
 }
 
 fn put_words(bytes: &mut Vec<u8>, words: &[u16]) {
@@ -134,6 +165,8 @@ impl<'a> Input<'a> {
             0x0A => Command::Dump,
             0x0B => Command::Set(self.byte()?, self.word()?, self.number(8)?),
             0x0C => Command::Byte(self.number(4)? as u32, self.byte()?),
+            0x0D => Command::Direct,
+            0x0E => Command::DirectRun(self.number(8)?, self.counted_bytes()?),
             _ => return None,
         })
     }

@@ -1,6 +1,6 @@
 //! Scripts on machines whose counters are nearly full, or over it.
 
-use crate::commands::{field, Command};
+use crate::commands::{by_both_engines, field, Command};
 use crate::edge_scripts::{run, set, STORE};
 use crate::programs::{HALT, JUMP};
 use crate::runs::FULL;
@@ -57,9 +57,9 @@ pub fn counters(number: usize) -> Vec<u8> {
     draft.bytes()
 }
 
-/// Ticks, instructions and runs, alone and in a row.
+/// Ticks, instructions and runs, alone and in a row, by both engines.
 fn counting_calls() -> Vec<Vec<Command>> {
-    vec![
+    let lists = [
         vec![Command::Micro; 10],
         vec![Command::Step; 3],
         vec![Command::Micro, Command::Step, Command::Step],
@@ -73,5 +73,8 @@ fn counting_calls() -> Vec<Vec<Command>> {
         vec![Command::Micro, Command::Run(40, vec![0])],
         vec![Command::Push, Command::Step, Command::Undo, Command::Step],
         vec![Command::Reset, Command::Step],
-    ]
+        // One engine goes on where the other was refused or stopped.
+        vec![Command::Direct, Command::Step, run(1), Command::Direct],
+    ];
+    lists.map(by_both_engines).concat()
 }

@@ -1,7 +1,7 @@
 //! Scripts that put every call to control units of every kind, and that set
 //! every field; and what other scripts on single states are made of.
 
-use crate::commands::{field, Command};
+use crate::commands::{self, field, Command};
 use crate::programs::HALT;
 use crate::scripts::Draft;
 use crate::snapshots::RECORD;
@@ -17,9 +17,9 @@ const OPCODES: usize = 16;
 /// A store, a load, a sum, a jump that is not taken and HALT.
 const PROGRAM: [u16; 7] = [0x1107, 0x4120, 0x3220, 0x6312, 0x7030, 0xD120, HALT];
 
-/// Every call, `run` in a few ways.
+/// Every call, `run` in a few ways, and the direct engine's beside their own.
 fn calls() -> Vec<Command> {
-    vec![
+    let calls = [
         Command::New,
         Command::Load(vec![0x1105, HALT]),
         Command::Reset,
@@ -32,7 +32,9 @@ fn calls() -> Vec<Command> {
         Command::Push,
         Command::Undo,
         Command::ClearHistory,
-    ]
+    ];
+    let by_both = calls.map(|call| commands::by_both_engines(vec![call]).concat());
+    by_both.concat()
 }
 
 /// A run without breakpoints.
@@ -128,7 +130,8 @@ pub fn sets(number: usize) -> Vec<u8> {
             draft.add(Command::New);
             draft.add_all(begun());
             draft.add(Command::Set(FIELDS[number], index, value));
-            draft.add_all([Command::Dump, Command::Micro, Command::Undo]);
+            draft.add_all([Command::Dump, Command::Micro, Command::Direct]);
+            draft.add(Command::Undo);
         }
     }
     draft.bytes()

@@ -190,13 +190,19 @@ fn looping(random: &mut Random, zone: usize) -> Vec<u16> {
     let times = 1 + random.below(12) as u16;
     let mut code = vec![0x1E00 | times, 0x1D01, 0x1F00];
     let start = code.len() as u16;
-    code.extend(body(random, 6, zone).into_iter().map(middle_registers));
+    code.extend(turn(random, 6, zone));
     // R0 is RE for the test, and zero again behind it.
     code.extend([0x6FFD, 0x200E]);
     let out = code.len() as u16 + 3;
     code.extend([0xDF00 | out, 0x1000, JUMP | start]);
     code.extend(end(random));
     code
+}
+
+/// A few instructions that write no register but R4 to R7.
+pub fn turn(random: &mut Random, most: usize, zone: usize) -> Vec<u16> {
+    let body = body(random, most, zone).into_iter();
+    body.map(middle_registers).collect()
 }
 
 /// The same instruction, which writes no register but R4 to R7.

@@ -6,7 +6,9 @@ include!(concat!(env!("OUT_DIR"), "/original.rs"));
 
 pub mod answers;
 pub mod commands;
+pub mod countdowns;
 pub mod counter_scripts;
+pub mod direct_scripts;
 pub mod edge_scripts;
 pub mod example_reports;
 pub mod guarded;
@@ -45,6 +47,8 @@ pub mod script_lists;
 pub mod scripts;
 pub mod snapshots;
 pub mod stop_reports;
+pub mod stretch_reports;
+pub mod stretch_scripts;
 pub mod tick_lists;
 pub mod ticks;
 pub mod touched;

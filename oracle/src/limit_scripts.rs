@@ -1,7 +1,7 @@
 //! Scripts that push records up to the limit of the store and past it, and undo
 //! them all.
 
-use crate::commands::Command;
+use crate::commands::{self, Command};
 use crate::programs::{self, HALT, JUMP};
 use crate::random::Random;
 use crate::scripts::Draft;
@@ -14,7 +14,7 @@ const STORES: [usize; 19] = [
 ];
 
 /// What stands between two pushes.
-const WAYS: usize = 4;
+const WAYS: usize = 6;
 
 pub const LIMIT_SCRIPTS: usize = STORES.len() * WAYS;
 
@@ -57,11 +57,13 @@ fn between(random: &mut Random, way: usize) -> Vec<Command> {
             1 + random.below(9) as u64,
             vec![random.byte()],
         )],
-        _ => vec![
+        3 => vec![
             Command::Load(programs::any(random)),
             Command::Step,
             Command::Micro,
         ],
+        // The instruction and the run again, by the direct engine.
+        _ => commands::by_direct_engine(&between(random, way - 3)),
     }
 }
 

@@ -16,7 +16,8 @@ pub fn tail(random: &mut Random) -> Vec<u8> {
         tail.extend((0..behind).map(|_| random.byte()));
         return tail;
     }
-    let whole = with_operands()[random.below(5)].bytes();
+    let kinds = with_operands();
+    let whole = kinds[random.below(kinds.len())].bytes();
     whole[..1 + random.below(whole.len() - 1)].to_vec()
 }
 
@@ -26,13 +27,15 @@ fn no_command(random: &mut Random) -> u8 {
 }
 
 /// One command of each kind that has operands.
-fn with_operands() -> [Command; 5] {
+fn with_operands() -> [Command; 7] {
     [
         Command::Load(vec![0x1105, HALT, 0x0A0A]),
         Command::Run(7, Vec::new()),
         Command::Run(7, vec![1, 2, 3]),
         Command::Set(0, 1, 2),
         Command::Byte(3, 4),
+        Command::DirectRun(7, Vec::new()),
+        Command::DirectRun(7, vec![1, 2, 3]),
     ]
 }
 
@@ -90,9 +93,10 @@ fn cut() -> Vec<Vec<u8>> {
 /// Counts that promise more than there is, or all that a count can say.
 fn counts() -> Vec<Vec<u8>> {
     let load = Command::Load(vec![0xE000; 65_535]).bytes();
-    let run = Command::Run(3, vec![1; 65_535]).bytes();
+    let run = Command::Run(3, vec![1; 65_535]);
+    let direct_run = run.direct().bytes();
     let mut scripts = Vec::new();
-    for whole in [load, run] {
+    for whole in [load, run.bytes(), direct_run] {
         for cut in [whole.len(), whole.len() - 1, whole.len() / 2, 20] {
             scripts.push(behind_before(&whole[..cut]));
         }

@@ -111,7 +111,7 @@ impl Model {
         self.test_machine()?;
         match call {
             Command::Push | Command::Undo => self.test_history()?,
-            Command::Micro | Command::Step => self.test_counters()?,
+            Command::Micro | Command::Step | Command::Direct => self.test_counters()?,
             _ => {}
         }
         self.lend_touched();
@@ -135,8 +135,14 @@ impl Model {
                 self.history.clear();
             }
             Command::Micro => return Ok(answers::op(machine.micro_step())),
-            Command::Step => return Ok(answers::report(&machine.step_instruction())),
-            Command::Run(budget, breakpoints) => return runs::run(machine, *budget, breakpoints),
+            // The direct engine is due to answer and to leave the machine as
+            // the original's own calls do.
+            Command::Step | Command::Direct => {
+                return Ok(answers::report(&machine.step_instruction()))
+            }
+            Command::Run(budget, breakpoints) | Command::DirectRun(budget, breakpoints) => {
+                return runs::run(machine, *budget, breakpoints)
+            }
             Command::Push => self.history.push(machine),
             Command::Undo => {
                 let snapshot = newest(&self.history)?;

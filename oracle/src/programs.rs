@@ -9,7 +9,7 @@ pub const HALT: u16 = 0xE000;
 /// JUMP on R0 to 00, which is always taken.
 pub const JUMP: u16 = 0xD000;
 /// ADD R0, R0, R0: as long as R0 is zero, it changes no register.
-const IDLE: u16 = 0x6000;
+pub const IDLE: u16 = 0x6000;
 
 /// A program of any of these kinds.
 pub fn any(random: &mut Random) -> Vec<u16> {

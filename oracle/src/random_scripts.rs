@@ -66,7 +66,7 @@ fn dump(random: &mut Random, draft: &mut Draft) {
 fn act(random: &mut Random, draft: &mut Draft) {
     match random.below(100) {
         0..=9 => draft.add_all(vec![Command::Micro; 1 + random.below(8)]),
-        10..=17 => draft.add_all(vec![Command::Step; 1 + random.below(3)]),
+        10..=17 => steps(random, draft),
         18..=27 => run(random, draft),
         28..=42 => pushes(random, draft),
         43..=56 => draft.add_all(vec![Command::Undo; undoes(random)]),
@@ -119,9 +119,25 @@ fn run(random: &mut Random, draft: &mut Draft) {
     let breakpoints = breakpoints(random, draft);
     // A wrong port may not end here, but it spends its budget.
     let large = random.pick(&[TRIED, 65_536, 1_000_000, 1_000_001]);
-    match random.below(3) == 0 && ends(draft, &breakpoints) {
-        true => draft.add(Command::Run(large, breakpoints)),
-        false => draft.add(Command::Run(budget, breakpoints)),
+    let budget = match random.below(3) == 0 && ends(draft, &breakpoints) {
+        true => large,
+        false => budget,
+    };
+    draft.add(by_either_engine(random, Command::Run(budget, breakpoints)));
+}
+
+/// A few instructions, each by either engine.
+fn steps(random: &mut Random, draft: &mut Draft) {
+    for _ in 0..1 + random.below(3) {
+        draft.add(by_either_engine(random, Command::Step));
+    }
+}
+
+/// The call, or the direct engine's for the same.
+pub fn by_either_engine(random: &mut Random, call: Command) -> Command {
+    match random.below(2) {
+        0 => call,
+        _ => call.direct(),
     }
 }
 
@@ -140,7 +156,7 @@ fn ends(draft: &Draft, breakpoints: &[u8]) -> bool {
 }
 
 /// Often near PC, where they are likely to be met.
-fn breakpoints(random: &mut Random, draft: &Draft) -> Vec<u8> {
+pub fn breakpoints(random: &mut Random, draft: &Draft) -> Vec<u8> {
     let pc = draft.model().machine().pc;
     let near = |random: &mut Random| pc.wrapping_add(random.below(16) as u8).wrapping_sub(4);
     match random.below(5) {
@@ -161,8 +177,11 @@ fn pushes(random: &mut Random, draft: &mut Draft) {
     for _ in 0..count {
         draft.add(Command::Push);
         match random.below(4) {
-            0 => draft.add(Command::Step),
-            1 => draft.add(Command::Run(1 + random.below(5) as u64, Vec::new())),
+            0 => draft.add(by_either_engine(random, Command::Step)),
+            1 => {
+                let run = Command::Run(1 + random.below(5) as u64, Vec::new());
+                draft.add(by_either_engine(random, run));
+            }
             _ => draft.add_all(vec![Command::Micro; random.below(4)]),
         }
     }
@@ -180,7 +199,7 @@ fn call(random: &mut Random, draft: &mut Draft) {
     match random.below(10) {
         0 => run(random, draft),
         1 | 2 => draft.add(Command::Micro),
-        3 | 4 => draft.add(Command::Step),
+        3 | 4 => draft.add(by_either_engine(random, Command::Step)),
         5 => draft.add(Command::Push),
         6 | 7 => draft.add(Command::Undo),
         _ => draft.add(anew(random)),
@@ -292,7 +311,7 @@ fn value_of(draft: &Draft, number: u8, index: u16) -> Option<u64> {
 }
 
 /// Around the largest count that refusal 9 lets go on.
-fn full_count(random: &mut Random) -> u64 {
+pub fn full_count(random: &mut Random) -> u64 {
     match random.below(8) {
         0..=2 => FULL - random.below(24) as u64,
         3 => FULL + 1 + random.below(15) as u64,
@@ -312,7 +331,7 @@ fn counters(random: &mut Random, draft: &mut Draft) {
     for _ in 0..1 + random.below(4) {
         match random.below(4) {
             0 => draft.add_all(vec![Command::Micro; 1 + random.below(8)]),
-            1 => draft.add(Command::Step),
+            1 => draft.add(by_either_engine(random, Command::Step)),
             _ => run(random, draft),
         }
     }

@@ -8,15 +8,13 @@ use crate::snapshots::{self, RECORD};
 
 /// A record with any tick, execute ticks and opcode, and with halted bytes and
 /// kinds of fault around what there is. A fault that comes back shows in the
-/// run.
+/// runs of both engines, and the direct one's instruction must keep it.
 pub fn ticks(number: usize) -> Vec<u8> {
     let (tick, execute_ticks, ir) = tick_case(number);
     let mut draft = Draft::started(STORE);
     for halted in 0..4 {
         for kind in 0..4 {
-            draft.add(Command::New);
-            draft.add_all(begun());
-            draft.add_all([
+            let changes = [
                 newest_byte(snapshots::IR, (ir >> 8) as u8),
                 newest_byte(snapshots::IR + 1, ir as u8),
                 newest_byte(snapshots::TICK, tick),
@@ -25,11 +23,13 @@ pub fn ticks(number: usize) -> Vec<u8> {
                 newest_byte(snapshots::FAULT_KIND, kind),
                 newest_byte(snapshots::FAULT_WORD, 0xAB),
                 newest_byte(snapshots::FAULT_ADDRESS, 0xCD),
-                Command::Undo,
-                Command::Dump,
-                run(9),
-                Command::Dump,
-            ]);
+            ];
+            for call in [run(9), run(9).direct(), Command::Direct] {
+                draft.add(Command::New);
+                draft.add_all(begun());
+                draft.add_all(changes.iter().cloned());
+                draft.add_all([Command::Undo, Command::Dump, call, Command::Dump]);
+            }
         }
     }
     draft.bytes()

@@ -6,7 +6,7 @@ use crate::guarded::Input;
 use crate::report_program::bytes;
 use crate::{
     example_reports, opcode_reports, random_reports, refused_reports, report_pairs, report_sample,
-    stop_reports,
+    stop_reports, stretch_reports,
 };
 use std::collections::HashSet;
 use std::sync::LazyLock;
@@ -31,7 +31,7 @@ pub enum Relation {
     Different,
 }
 
-pub const FAMILIES: [Family; 18] = [
+pub const FAMILIES: [Family; 20] = [
     free(
         "sample",
         || report_sample::inputs().len(),
@@ -113,6 +113,17 @@ pub const FAMILIES: [Family; 18] = [
         name: "more_values",
         count: || 4 * (report_pairs::VALUE_PROGRAMS - 1),
         inputs: |number| all_bytes(&report_pairs::values(1 + number / 4, number % 4 * 85)),
+        relation: Relation::Same,
+    },
+    free(
+        "stretch_ends",
+        || stretch_reports::END_CASES,
+        |number| all_bytes(&stretch_reports::ends(number)),
+    ),
+    Family {
+        name: "stretch_random",
+        count: || stretch_reports::RANDOM_CASES,
+        inputs: |number| all_bytes(&stretch_reports::any(number)),
         relation: Relation::Same,
     },
 ];

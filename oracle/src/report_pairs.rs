@@ -18,7 +18,7 @@ pub const OPEN_CASES: usize = 6 * 500;
 pub fn hidden(number: usize) -> Vec<Input> {
     let mut random = Random::new(0x41DD_0000_0000 + number as u64);
     let input = with_hidden(&mut random);
-    let all = with_others(&mut random, &input, &hidden_addresses(&input));
+    let all = with_other_hidden(&mut random, &input);
     let one = random.pick(&hidden_addresses(&input));
     let one = with_others(&mut random, &input, &[one]);
     vec![input, all, one]
@@ -50,6 +50,11 @@ fn open_addresses(input: &Input) -> Vec<usize> {
 fn addresses(input: &Input, mark: u8) -> Vec<usize> {
     let has = |address: &usize| input.marks[*address] == mark;
     (0..input.image.len()).filter(has).collect()
+}
+
+/// The same with another word at each hidden address of the image.
+pub fn with_other_hidden(random: &mut Random, input: &Input) -> Input {
+    with_others(random, input, &hidden_addresses(input))
 }
 
 /// The same with another word at each of these addresses.

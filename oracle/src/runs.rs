@@ -12,7 +12,8 @@ pub fn is_over_counted(machine: &Machine) -> bool {
     !machine.halted && counters(machine).iter().any(|counter| *counter > FULL)
 }
 
-fn counters(machine: &Machine) -> [u64; 4] {
+/// In the order of `field::COUNTERS`.
+pub fn counters(machine: &Machine) -> [u64; 4] {
     [
         machine.instructions,
         machine.micro_operations,

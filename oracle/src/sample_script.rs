@@ -28,6 +28,9 @@ pub fn script() -> Vec<u8> {
     orders(&mut draft);
     full_counters(&mut draft);
     started_anew(&mut draft);
+    direct_instructions(&mut draft);
+    direct_runs(&mut draft);
+    direct_refusals(&mut draft);
     let mut script = draft.bytes();
     // Three bytes of a run's operands.
     script.extend([0x06, 0x00, 0x00, 0x00]);
@@ -245,5 +248,54 @@ fn started_anew(draft: &mut Draft) {
     ] {
         draft.add_all([Command::New, load(), Command::Step, Command::Push]);
         draft.add_all([anew, Command::Undo, Command::Dump]);
+    }
+}
+
+/// The direct engine's instruction: at the first tick, at every later one of an
+/// instruction of seven, at HALT, at an unknown word, and on a halted machine.
+fn direct_instructions(draft: &mut Draft) {
+    draft.add_all([Command::New, load()]);
+    draft.add_all(vec![Command::Direct; 5]);
+    draft.add(Command::Dump);
+    for ticks in 1..=6 {
+        let words = vec![0x4120, 0x3320, HALT];
+        draft.add_all([Command::New, Command::Load(words)]);
+        draft.add_all(vec![Command::Micro; ticks]);
+        draft.add_all(vec![Command::Direct; 3]);
+        draft.add_all([Command::Dump, Command::Direct]);
+    }
+    let unknown = Command::Load(vec![0x5123]);
+    draft.add_all([unknown, Command::Direct, Command::Dump, Command::Direct]);
+}
+
+/// Its run, by each way in which one stops, from the first tick and from a
+/// later one; and one of many instructions, behind which a run goes on that the
+/// fault of a spent budget does not stop.
+fn direct_runs(draft: &mut Draft) {
+    let run = |budget: u64, breakpoints: &[u8]| Command::DirectRun(budget, breakpoints.to_vec());
+    draft.add_all([Command::New, load(), run(99, &[0, 3, 8]), Command::Dump]);
+    draft.add_all([Command::Micro, run(99, &[3]), Command::Dump]);
+    draft.add_all([run(99, &[]), Command::Dump, run(1, &[]), Command::Direct]);
+    draft.add_all([Command::Reset, Command::Micro, run(1, &[]), Command::Dump]);
+    draft.add_all([Command::Reset, run(0, &[]), Command::Dump]);
+    draft.add_all([Command::Load(vec![0x1105, 0x5123]), run(5, &[])]);
+    let looping = vec![0x1201, 0x6112, 0x4120, 0x3320, 0xD001];
+    draft.add_all([Command::New, Command::Load(looping), run(700, &[0])]);
+    draft.add_all([Command::Dump, set(field::HALTED, 0), Command::Direct]);
+    draft.add_all([run(9, &[1]), Command::Dump]);
+}
+
+/// Refusals 8 and 9 of both; a run refused 9 keeps what it completed.
+fn direct_refusals(draft: &mut Draft) {
+    let run = |budget: u64| Command::DirectRun(budget, Vec::new());
+    for (field, over) in [(field::TICK, 7), (field::IMAGE_LENGTH, 257)] {
+        draft.add_all([Command::New, load(), Command::Step, set(field, over)]);
+        draft.add_all([Command::Direct, run(3), Command::Dump]);
+    }
+    for counter in field::COUNTERS {
+        draft.add_all([Command::New, load(), set(counter, FULL + 1)]);
+        draft.add_all([Command::Direct, run(2), run(0), Command::Direct]);
+        draft.add_all([Command::Reset, set(counter, FULL), Command::Direct]);
+        draft.add_all([set(counter, FULL - 6), run(99), Command::Dump]);
     }
 }

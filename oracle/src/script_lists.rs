@@ -2,8 +2,8 @@
 //! its number, so that any one can be made alone.
 
 use crate::{
-    counter_scripts, edge_scripts, limit_scripts, live_scripts, malformed_scripts, random_scripts,
-    record_scripts, sample_script, snapshots, vm_lists,
+    counter_scripts, direct_scripts, edge_scripts, limit_scripts, live_scripts, malformed_scripts,
+    random_scripts, record_scripts, sample_script, snapshots, stretch_scripts, vm_lists,
 };
 
 pub struct Family {
@@ -13,7 +13,7 @@ pub struct Family {
     pub script: fn(usize) -> Vec<u8>,
 }
 
-pub const FAMILIES: [Family; 14] = [
+pub const FAMILIES: [Family; 19] = [
     Family {
         name: "sample",
         count: || 1,
@@ -83,5 +83,30 @@ pub const FAMILIES: [Family; 14] = [
         name: "lists",
         count: || vm_lists::LIST_SCRIPTS,
         script: vm_lists::script,
+    },
+    Family {
+        name: "direct",
+        count: || direct_scripts::DIRECT_SCRIPTS,
+        script: direct_scripts::any,
+    },
+    Family {
+        name: "stretch_budgets",
+        count: || stretch_scripts::BUDGET_SCRIPTS,
+        script: stretch_scripts::budgets,
+    },
+    Family {
+        name: "stretch_ends",
+        count: || stretch_scripts::END_SCRIPTS,
+        script: stretch_scripts::ends,
+    },
+    Family {
+        name: "stretch_counters",
+        count: || stretch_scripts::FULL_SCRIPTS,
+        script: stretch_scripts::full,
+    },
+    Family {
+        name: "stretch_begun",
+        count: || stretch_scripts::BEGUN_SCRIPTS,
+        script: stretch_scripts::begun,
     },
 ];

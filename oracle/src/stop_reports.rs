@@ -3,10 +3,8 @@
 
 use crate::example_reports::{input, longest_report, with_word_10};
 use crate::guarded::{Input, BREAKPOINTS};
-use crate::programs::{HALT, JUMP};
+use crate::programs::{HALT, IDLE, JUMP};
 
-/// An instruction that changes nothing as long as R0 is zero.
-const IDLE: u16 = 0x6000;
 /// Where these programs have their data.
 const DATA: u16 = 0x10;
 

@@ -2,9 +2,10 @@
 //! a new machine, and behind each call the whole machine is dumped. A script has
 //! many lists.
 
-use crate::commands::Command;
+use crate::commands::{by_direct_engine, Command};
 use crate::programs::{self, HALT, JUMP};
 use crate::random::Random;
+use crate::random_scripts::by_either_engine;
 use crate::scripts::{Draft, LONGEST};
 use crate::vm::Machine;
 
@@ -12,8 +13,8 @@ use crate::vm::Machine;
 const LISTS: usize = 100_000;
 const IN_A_SCRIPT: usize = 500;
 
-/// How many scripts there are: the first has the lists that were chosen.
-pub const LIST_SCRIPTS: usize = 1 + LISTS / IN_A_SCRIPT;
+/// How many scripts there are: the first two have the lists that were chosen.
+pub const LIST_SCRIPTS: usize = 2 + LISTS / IN_A_SCRIPT;
 
 /// Image lengths around none, one and the machine's size, and well over it.
 const LENGTHS: [usize; 10] = [0, 1, 2, 255, 256, 257, 300, 511, 513, 700];
@@ -34,6 +35,8 @@ fn every_call() -> Vec<Command> {
         Command::Step,
         Command::Run(3, vec![1]),
         Command::ClearHistory,
+        Command::Direct,
+        Command::DirectRun(3, vec![1]),
     ]
 }
 
@@ -42,8 +45,11 @@ pub fn script(number: usize) -> Vec<u8> {
     let mut draft = Draft::started(0);
     match number {
         0 => chosen().into_iter().for_each(|list| add(&mut draft, list)),
+        1 => chosen()
+            .iter()
+            .for_each(|list| add(&mut draft, by_direct_engine(list))),
         _ => {
-            let first = (number - 1) * IN_A_SCRIPT;
+            let first = (number - 2) * IN_A_SCRIPT;
             (first..first + IN_A_SCRIPT).for_each(|list| any(&mut draft, list));
         }
     }
@@ -97,6 +103,7 @@ fn ends() -> Vec<Vec<Command>> {
             let mut list = vec![Command::Load(vec![word])];
             list.extend(way);
             list.extend([Command::Micro, Command::Step, run(1)]);
+            list.extend([Command::Direct, run(1).direct()]);
             lists.push(list);
         }
     }
@@ -329,8 +336,11 @@ fn any_call(random: &mut Random, draft: &Draft) -> Command {
     match random.below(84) {
         0..=19 if halted => anew(random),
         0..=27 => Command::Micro,
-        28..=47 => Command::Step,
-        48..=74 => any_run(random, draft),
+        28..=47 => by_either_engine(random, Command::Step),
+        48..=74 => {
+            let run = any_run(random, draft);
+            by_either_engine(random, run)
+        }
         75 => Command::ClearHistory,
         _ => anew(random),
     }

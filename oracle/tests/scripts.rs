@@ -1,7 +1,7 @@
 //! The model of `massey_calls` itself, held to sentences of document 01 and of
 //! the call program's document, by answers that are written out here.
 
-use oracle::commands::{field, Command};
+use oracle::commands::{by_both_engines, field, Command, Input};
 use oracle::script_lists::FAMILIES;
 use oracle::snapshots::{self, RECORD};
 use oracle::vm_limited::{Fault, FaultKind, Machine};
@@ -16,7 +16,7 @@ fn script(store: u32, commands: &[Command]) -> Vec<u8> {
 
 /// The first byte of each call's answer.
 fn numbers(script: &[u8]) -> Vec<u8> {
-    let is_call = |command: &Command| command.number() < 0x0A;
+    let is_call = |command: &Command| !(0x0A..=0x0C).contains(&command.number());
     scripts::parts(script)
         .iter()
         .filter(|part| part.command.as_ref().is_none_or(is_call))
@@ -147,7 +147,8 @@ fn states_that_are_no_machine() {
 #[test]
 fn full_counters() {
     let load = Command::Load(vec![0x6000, 0x6000, 0xE000]);
-    let calls = [Command::Micro, Command::Step, run(0)];
+    let steps = [Command::Micro, Command::Step, Command::Direct];
+    let runs = [run(0), run(0).direct()];
     for counter in field::COUNTERS {
         for (count, due) in [(FULL, 0), (FULL + 1, 9), (u64::MAX, 9)] {
             let start = [load.clone(), set(counter, count)];
@@ -157,16 +158,19 @@ fn full_counters() {
                     &[&start[..], std::slice::from_ref(call)].concat(),
                 ))[1]
             };
-            assert_eq!(calls.each_ref().map(first), [due, due, 0]);
+            assert_eq!(steps.each_ref().map(first), [due; 3]);
+            assert_eq!(runs.each_ref().map(first), [0; 2]);
         }
     }
     // Five ticks are made, and then none.
     let start = [load, set(field::MICRO_OPERATIONS, FULL - 4)];
     let behind = [run(9), run(1), set(field::HALTED, 1), Command::Micro];
-    assert_eq!(
-        numbers(&script(0, &[&start[..], &behind].concat())),
-        [0, 9, 9, 0]
-    );
+    for behind in by_both_engines(behind.to_vec()) {
+        assert_eq!(
+            numbers(&script(0, &[&start[..], &behind].concat())),
+            [0, 9, 9, 0]
+        );
+    }
 }
 
 #[test]
@@ -188,7 +192,7 @@ fn malformed_scripts() {
     assert_eq!(scripts::output(&[0, 0, 0, 0]), []);
     assert_eq!(scripts::output(&[0, 1, 0, 0, 9]), [0]);
     assert_eq!(scripts::output(&[0, 1, 0, 1, 9]), [0xFF]);
-    assert_eq!(scripts::output(&[0, 0, 0, 0, 9, 0x0D, 9]), [0, 0xFF]);
+    assert_eq!(scripts::output(&[0, 0, 0, 0, 9, 0x0F, 9]), [0, 0xFF]);
     assert_eq!(
         scripts::output(&[0, 0, 0, 0, 9, 1, 0, 2, 0, 0, 0]),
         [0, 0xFF]
@@ -198,6 +202,46 @@ fn malformed_scripts() {
     assert_eq!(scripts::output(&longest).len(), 262_140);
     longest.push(9);
     assert_eq!(scripts::output(&longest), [0xFF]);
+}
+
+#[test]
+fn the_direct_engine_as_bytes() {
+    let run = Command::DirectRun(0x0102, vec![3, 4]);
+    let whole = [0x0E, 0, 0, 0, 0, 0, 0, 1, 2, 0, 2, 3, 4];
+    assert_eq!(run.bytes(), whole);
+    assert_eq!(Command::Direct.bytes(), [0x0D]);
+    for command in [run, Command::Direct] {
+        assert_eq!(Input(&command.bytes()).command(), Some(command));
+    }
+    for cut in 1..whole.len() {
+        assert_eq!(Input(&whole[..cut]).command(), None);
+        let script = [&[0, 0, 0, 0, 9], &whole[..cut]].concat();
+        assert_eq!(scripts::output(&script), [0, 0xFF]);
+    }
+}
+
+/// Its answers are those of `step_instruction` and `run`.
+#[test]
+fn the_direct_engine_answers() {
+    let load = Command::Load(vec![0x1105, 0xE000]);
+    let parts = scripts::parts(&script(0, &[load.clone(), Command::Direct]));
+    let answer = &parts[1].answer;
+    assert_eq!(answer[..5], [0, 0, 0x11, 0x05, b'L']);
+    assert_eq!((answer[36], answer.len()), (5, 37 + 5 * 32 + 2));
+    let runs = [
+        (run(9), [0, 0, 0, 2]),
+        (Command::Run(9, vec![0, 1]), [0, 1, 1, 1]),
+        (run(1), [0, 3, 0, 1]),
+        (run(0), [0, 3, 0, 0]),
+    ];
+    for (call, [refusal, stop, address, executed]) in runs {
+        let parts = scripts::parts(&script(0, &[load.clone(), call.direct()]));
+        let due = [refusal, stop, address, 0, 0, 0, 0, 0, 0, 0, executed];
+        assert_eq!(parts[1].answer, due);
+    }
+    let again = [load, run(9).direct(), run(9).direct()];
+    let parts = scripts::parts(&script(0, &again));
+    assert_eq!(parts[2].answer, [0, 6, 0, 0, 0, 0, 0, 0, 0, 0, 0]);
 }
 
 /// A script that asks for what is not fixed stops the model.

@@ -1,3 +1,4 @@
 pub mod Operation
 pub mod Lawful
 pub mod Count
+pub mod Last

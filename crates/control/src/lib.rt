@@ -2,6 +2,7 @@
 // can be in: what every layer above speaks of, and no tick itself.
 mod control;
 mod counters;
+mod last;
 mod lawful;
 
 pub use control::AluOperation;
@@ -17,4 +18,8 @@ pub use control::WordOption;
 pub use counters::Counters;
 pub use counters::count_tick;
 pub use counters::is_over_counted;
+pub use last::last_address;
+pub use last::last_bus;
+pub use last::last_sent;
+pub use last::last_value;
 pub use lawful::is_lawful;

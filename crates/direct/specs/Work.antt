@@ -27,6 +27,7 @@ use Rattle.control.specs.declared.control.State.{State}
 use Rattle.control.specs.declared.control.Operands.{Operands}
 use Rattle.control.specs.declared.counters.Counters.{Counters}
 use Rattle.control.specs.Count.{oneMore, more}
+use Rattle.control.specs.Last.{lastBus, lastAddress, lastValue}
 use Rattle.tick.specs.Tick.{sum16, negate16, right16, left16}
 use Rattle.direct.specs.declared.work.Work.{Work}
 
@@ -71,28 +72,6 @@ halts d = eqb (executeTicks d) 0
 abbrev pub faultBy : Decoded → ℕ → ℕ → Fault → Fault
 faultBy (Known o) w a f = f
 faultBy Unknown w a f = UnknownInstruction w a
-
--- the last transfer over the bus: that of the fetch, of the word w at a, unless there is a later one; its address is MAR then, and its value MDR
-abbrev pub lastBus : BusTransfer → ℕ → ℕ → BusTransfer
-lastBus Idle a w = Read a w
-lastBus (Read b v) a w = Read b v
-lastBus (Write b v) a w = Write b v
-
-abbrev pub lastAddress : BusTransfer → ℕ → ℕ
-lastAddress Idle a = a
-lastAddress (Read b v) a = b
-lastAddress (Write b v) a = b
-
-abbrev pub lastValue : BusTransfer → ℕ → ℕ
-lastValue Idle w = w
-lastValue (Read b v) w = v
-lastValue (Write b v) w = v
-
--- what the last tick sends: only STORE's is a transfer over the bus
-abbrev pub lastSent : BusTransfer → BusTransfer
-lastSent Idle = Idle
-lastSent (Read a v) = Idle
-lastSent (Write a v) = Write a v
 
 -- the control unit, and all that is not an array or a counter, after the word w at address a
 abbrev pub controlBy : Decoded → ℕ → ℕ → Work → Control

@@ -1,6 +1,6 @@
 // A whole instruction as one change of state, with its records in the trace: what its ticks do, without them.
 ghost use mathlib.Core.Path.{_≡_};
-ghost use Rattle.direct.specs.Work.{faultBy, lastBus, lastAddress, lastValue, lastSent, stateBy};
+ghost use Rattle.direct.specs.Work.{faultBy, stateBy};
 ghost use Rattle.direct.specs.Light.{takenBy};
 ghost use Rattle.direct.specs.Whole.{heldAtFirst, heldAtLast, whollyOf, wholeOn};
 use crate::work::Work;
@@ -14,6 +14,10 @@ use control::Counters;
 use control::Fault;
 use control::RegisterWrite;
 use control::State;
+use control::last_address;
+use control::last_bus;
+use control::last_sent;
+use control::last_value;
 use isa::Decoded;
 use isa::Instruction;
 use isa::MEMORY_WORDS;
@@ -33,51 +37,6 @@ fn fault_by(decoded: Decoded, word: u16, address: u8, fault: Fault) -> Fault
     match decoded {
         Decoded::Known(_) => fault,
         Decoded::Unknown => Fault::UnknownInstruction { word, address },
-    }
-}
-
-// The last transfer over the bus, with its address and its value: that of the fetch, or a later one.
-fn last_bus(bus: BusTransfer, at: u8, word: u16) -> BusTransfer
-    ensures { λ r. ⌜ r ≡ lastBus bus at word ⌝ }
-{
-    match bus {
-        BusTransfer::Idle => BusTransfer::Read {
-            address: at,
-            value: word,
-        },
-        BusTransfer::Read { address, value } => BusTransfer::Read { address, value },
-        BusTransfer::Write { address, value } => BusTransfer::Write { address, value },
-    }
-}
-
-fn last_address(bus: BusTransfer, at: u8) -> u8
-    ensures { λ r. ⌜ r ≡ lastAddress bus at ⌝ }
-{
-    match bus {
-        BusTransfer::Idle => at,
-        BusTransfer::Read { address, value: _ } => address,
-        BusTransfer::Write { address, value: _ } => address,
-    }
-}
-
-fn last_value(bus: BusTransfer, word: u16) -> u16
-    ensures { λ r. ⌜ r ≡ lastValue bus word ⌝ }
-{
-    match bus {
-        BusTransfer::Idle => word,
-        BusTransfer::Read { address: _, value } => value,
-        BusTransfer::Write { address: _, value } => value,
-    }
-}
-
-// What the last tick sends: only STORE's is a transfer.
-fn last_sent(bus: BusTransfer) -> BusTransfer
-    ensures { λ r. ⌜ r ≡ lastSent bus ⌝ }
-{
-    match bus {
-        BusTransfer::Idle => BusTransfer::Idle,
-        BusTransfer::Read { .. } => BusTransfer::Idle,
-        BusTransfer::Write { address, value } => BusTransfer::Write { address, value },
     }
 }
 

@@ -5,6 +5,7 @@ use mathlib.Core.Bool.{not}
 use mathlib.Core.List.{List}
 use Rattle.isa.specs.declared.opcode.Decoded.{Decoded}
 use Rattle.isa.specs.Word.{decodeWord}
+use Rattle.control.specs.Last.{lastSent}
 use Rattle.guard.specs.declared.stops.RunStop.the-variants.{Budget}
 use Rattle.guard.specs.Stops.{after}
 use Rattle.trace.specs.declared.records.TraceRecord.{TraceRecord}
@@ -12,7 +13,7 @@ use Rattle.trace.specs.Lines.{logged}
 use Rattle.trace.specs.Cells.{registersAfter, memoryAfter}
 use Rattle.trace.specs.Touched.{touchedBy}
 use Rattle.direct.specs.declared.work.Work.{Work}
-use Rattle.direct.specs.Work.{counts, lastSent, stateBy, countWhole}
+use Rattle.direct.specs.Work.{counts, stateBy, countWhole}
 use Rattle.direct.specs.Light.{Light, wordAt, workOf, recordsOf}
 use Rattle.vm.specs.declared.transfer.Done.{Done}
 use Rattle.vm.specs.Machine.{Machine}

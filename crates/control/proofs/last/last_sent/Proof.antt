@@ -1,7 +1,7 @@
 -- Assumes nothing.
 use borrow.Author.Needs.{needs}
-use Rattle.direct.proofs.whole.last_sent.Statement.{statement}
-use Rattle.direct.proofs.whole.last_sent.Tie as tie
+use Rattle.control.proofs.last.last_sent.Statement.{statement}
+use Rattle.control.proofs.last.last_sent.Tie as tie
 
 enum-told : tie.Need-enum-told
 enum-told c = search needs
