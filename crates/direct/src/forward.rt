@@ -11,7 +11,7 @@ use isa::MEMORY_WORDS;
 use isa::REGISTER_COUNT;
 
 // More than the 129 instructions that write a trace anew.
-pub const STRETCH: u64 = 256;
+const STRETCH: u64 = 256;
 
 // A counter up to here is not near its end before any instruction of a stretch, none of which counts more than 7.
 const ROOMY: u64 = 18446744073709549808;

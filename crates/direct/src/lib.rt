@@ -6,7 +6,6 @@ mod table;
 mod whole;
 mod work;
 
-pub use forward::STRETCH;
 pub use forward::light_forward;
 pub use light::Lane;
 pub use light::Made;

@@ -5,12 +5,12 @@ use mathlib.Core.Path.{_≡_}
 use mathlib.Core.Bool.{true}
 use mathlib.Core.List.{List}
 use denote.Ref.{RefT, now}
-use denote.Triple.Both.{Both}
 use lib.ListN.{take}
 use Rattle.control.specs.Lawful.{lawful}
 use Rattle.guard.specs.declared.stops.RunStop.{RunStop}
 use Rattle.guard.specs.declared.stops.RunStop.the-variants.{Halted, Breakpoint, Fault, Budget, AlreadyHalted, Refused}
 use Rattle.trace.specs.declared.records.TraceRecord.{TraceRecord}
+use Rattle.direct.specs.Lane.{Lent}
 use Rattle.vm.specs.declared.transfer.Core.{Core}
 use Rattle.vm.specs.declared.instruction.Stepped.{Stepped}
 use Rattle.vm.specs.Instruction.{Steps, stepInstruction}
@@ -30,10 +30,6 @@ pub record Parts : Type 0 where
 
 abbrev pub parts : Core → List ℕ → List ℕ → List ℕ → List ℕ → List ℕ → List ℕ → Parts
 parts c m r t k i l = record { core = c; memory = m; registers = r; touched = t; columns = k; numbers = i; lengths = l }
-
--- an array that is lent to a call: as it came, and as it is left
-abbrev pub Lent : Type 0
-Lent = Both (RefT (List ℕ)) (RefT (List ℕ))
 
 -- the parts that are lent to a call
 abbrev pub given : Core → RefT (List ℕ) → RefT (List ℕ) → RefT (List ℕ) → RefT (List ℕ) → RefT (List ℕ) → RefT (List ℕ) → Parts

@@ -51,7 +51,7 @@ pub struct GuardedCore {
     pub mdr_mark: u8,
 }
 
-// The run of a machine whose MDR is open.
+// The run of a machine whose MDR is open: as `run_parts`, with marks.
 fn guarded_parts(
     from: Core,
     budget: Begun,

@@ -72,6 +72,8 @@ fn stopped_core(stop: RunStop, core: Core) -> Core
     }
 }
 
+// The run: instructions with their records, and behind the first one those that its end does not show. There are no
+// marks that could hide anything.
 pub(crate) fn run_parts(
     from: Core,
     budget: Begun,
