@@ -42,7 +42,7 @@ pub clear-history-lasts : (m : Code) → isMachine m ≡ true → isMachine (cle
 unfolding clearHistory
 clear-history-lasts m e = rw (served m _ e) e
 
--- by which calls a machine is reached, with any store; the image's array has 256 words, as its type tells; `micro_step`, `step_instruction` and `run` promise `lasting`, and the readings leave the machine as it is
+-- by which calls a machine is reached, with any store; the image's array has 256 words, as its type tells; `micro_step`, `step_instruction`, `run`, `direct_instruction` and `direct_run` promise `lasting`, and the readings leave the machine as it is
 pub data Reached : Code → Type 0 where
   new : Reached (restarted (imageWords []) 0 0)
   load : (image : List ℕ) (m : Code) → Reached m → Reached (loaded image m .machine)
