@@ -14,6 +14,7 @@ use Rattle.control.specs.declared.control.Fault.{Fault}
 use Rattle.control.specs.declared.counters.Counters.{Counters}
 use Rattle.control.proofs.Lawfuls.{true-false}
 use Rattle.marks.specs.Marks.{Marks, marked, marksOf, mdrMarked, instructionMarks}
+use Rattle.marks.proofs.Moves.{fetch-opens}
 use Rattle.trace.specs.Touched.{TouchFit}
 use Rattle.direct.specs.declared.light.Lane.{Lane}
 use Rattle.direct.specs.Work.{counts, halts}
@@ -113,11 +114,6 @@ module _ (b t : List ℕ) (table : Table b t) (f : Fault) (k : ℕ) (l : Light) 
   unfolding marksSteps
   next-marks j = let z : suc j ≡ j + 1 = omega arith in ap (λ (n : ℕ). marksSteps n l q) z
 
-  -- whatever MDR's mark was
-  opened : (w : ℕ) (p : Marks) → instructionMarks w (mdrMarked 0 p) ≡ instructionMarks w p
-  unfolding instructionMarks
-  opened w p = refl
-
   stands-more : (j n : ℕ) (s : Slots) → Stands b f k l q j s → Room n (s .lane .counters) → goesOn t true s ≡ true → halts (decodeWord (slotWord s)) ≡ false → Stands b f k l q (j + 1) (slotStep (decodeWord (slotWord s)) (slotWord s) s)
   stands-more j n s a r e h =
       let g = fast-here j n s a r e h in
@@ -126,7 +122,7 @@ module _ (b t : List ℕ) (table : Table b t) (f : Fault) (k : ℕ) (l : Light) 
         marks =
             step-marks f s (a .notes)
             ∙ (λ i. mdrMarked 0 (instructionMarks (wordAt (a .light i)) (a .marks i)))
-            ∙ ap (mdrMarked 0) (opened (wordAt (lightSteps j l)) (marksSteps j l q) ∙ next-marks j);
+            ∙ ap (mdrMarked 0) (fetch-opens (wordAt (lightSteps j l)) (mdrMarked 0 (marksSteps j l q)) (marksSteps j l q) refl ∙ next-marks j);
         fast = fast-more j (a .fast) g;
         notes = step-notes f s (a .notes);
         byte = step-byte f s (a .notes);

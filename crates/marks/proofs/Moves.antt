@@ -9,9 +9,9 @@ use lib.Seq.{set-getD}
 use Rattle.isa.specs.declared.opcode.Opcode.the-variants.{LoadImmediate, LoadRegister, LoadMemory, StoreMemory, Add, Negate, ShiftRight, ShiftLeft, And, Or, Xor, Jump, Halt}
 use Rattle.isa.specs.declared.opcode.Decoded.{Decoded}
 use Rattle.isa.specs.declared.opcode.Decoded.the-variants.{Known, Unknown}
-use Rattle.isa.specs.Word.{digitX, digitY, digitZ, byteYZ}
+use Rattle.isa.specs.Word.{decodeWord, digitX, digitY, digitZ, byteYZ}
 use Rattle.marks.specs.declared.Moved.{Moved}
-use Rattle.marks.specs.Marks.{Marks, joinedYZ, executedMarks, moves}
+use Rattle.marks.specs.Marks.{Marks, mdrMarked, joinedYZ, executedMarks, instructionMarks, moves}
 
 -- a register and the word at yz get a mark, and MDR
 abbrev markedBy : ℕ → Moved → List ℕ → List ℕ → Marks
@@ -55,6 +55,11 @@ module _ (w : ℕ) (m r : List ℕ) where
       (λ i. record { memory = set m (byteYZ w) (v .2); registers = set r (t i) (v .1); mdr = v .3 })
       ∙ ap (λ (x : Moved). markedBy w x m r) (e ∙ (λ i. moves d (getD r (digitX w) 0) (getD r (digitY w) 0) (getD r (digitZ w) 0) (j i) (getD m (byteYZ w) 0)))
       ∙ sym (executed d)
+
+-- whatever MDR's mark was: a fetch opens it
+pub fetch-opens : (w : ℕ) (p q : Marks) → mdrMarked 0 p ≡ mdrMarked 0 q → instructionMarks w p ≡ instructionMarks w q
+unfolding instructionMarks
+fetch-opens w p q e = ap (executedMarks (decodeWord w) w) e
 
 pub pick-below : (second : Bool) (n : ℕ) {a b : ℕ} → a < n → b < n → cond second b a < n
 pick-below true n p q = q

@@ -9,7 +9,8 @@ use lib.ListN.{length, getD}
 use Rattle.isa.specs.Word.{decodeWord}
 use Rattle.control.specs.declared.control.Fault.{Fault}
 use Rattle.trace.specs.declared.records.TraceRecord.{TraceRecord}
-use Rattle.marks.specs.Marks.{Marks, mdrMarked, executedMarks, instructionMarks}
+use Rattle.marks.specs.Marks.{Marks, mdrMarked, instructionMarks}
+use Rattle.marks.proofs.Moves.{fetch-opens}
 use Rattle.guard.specs.Stops.{Verdict, go, reached, hiddenJump, guardIf}
 use Rattle.vm.specs.Machine.{Machine}
 use Rattle.vm.specs.Guard.{Guarded, nextWord, guardedStep, guard, guardedRun}
@@ -54,18 +55,14 @@ marks-of (suc k) g r h =
     ∙ sym (marks-next k l (g .marks))
 
 -- whatever MDR's mark was: the next instruction sets it anew
-step-opened : (w : ℕ) (p q : Marks) → mdrMarked 0 p ≡ mdrMarked 0 q → instructionMarks w p ≡ instructionMarks w q
-unfolding instructionMarks
-step-opened w p q e = ap (executedMarks (decodeWord w) w) e
-
 pub opened : (k : ℕ) (l : Light) (p q : Marks) → mdrMarked 0 p ≡ mdrMarked 0 q → mdrMarked 0 (marksSteps k l p) ≡ mdrMarked 0 (marksSteps k l q)
 unfolding marksSteps
 opened zero l p q e = e
-opened (suc k) l p q e = ap (mdrMarked 0) (step-opened (wordAt (lightSteps k l)) (marksSteps k l p) (marksSteps k l q) (opened k l p q e))
+opened (suc k) l p q e = ap (mdrMarked 0) (fetch-opens (wordAt (lightSteps k l)) (marksSteps k l p) (marksSteps k l q) (opened k l p q e))
 
 opened-next : (k : ℕ) (l : Light) (p q : Marks) → mdrMarked 0 p ≡ mdrMarked 0 q → marksSteps (suc k) l p ≡ marksSteps (suc k) l q
 unfolding marksSteps
-opened-next k l p q e = step-opened (wordAt (lightSteps k l)) (marksSteps k l p) (marksSteps k l q) (opened k l p q e)
+opened-next k l p q e = fetch-opens (wordAt (lightSteps k l)) (marksSteps k l p) (marksSteps k l q) (opened k l p q e)
 
 -- two guarded machines that differ in what the next instruction sets, and in their traces
 pub guarded-twins : (k : ℕ) (g h : Guarded) → Ready (g .machine) → Ready (h .machine) → lightOf (g .machine) ≡ lightOf (h .machine) → mdrMarked 0 (g .marks) ≡ mdrMarked 0 (h .marks) → 128 ≤ k → Lasts (suc k) (lightOf (g .machine)) → guardedSteps (suc k) g ≡ guardedSteps (suc k) h
