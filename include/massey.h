@@ -1,13 +1,130 @@
-/* The calls of libmassey.a (rt staticlib massey). None lays a condition on its
- * caller. A call answers a length where it is served, and minus the refusal's
- * number where it is not; a refused call leaves the buffer as it was. A pointer
- * and the number after it are one slice of bytes; an empty slice's pointer may
- * be null. Words are 16 bits, high byte first. */
+/* The calls of libmassey.a (rt staticlib massey). A call answers a length where
+ * it is served, and minus the refusal's number where it is not; a refused call
+ * leaves the buffer as it was. Every input and every length is answered.
+ *
+ * What is left to the caller: a pointer and the number after it are one slice of
+ * bytes, which must be there to read, and of out to write too; an empty slice's
+ * pointer may be null. No other thread writes to the bytes of the input or
+ * touches those of out during the call. The input and out may overlap: the
+ * answer and the bytes of out are those of separate buffers. A call keeps
+ * nothing, allocates nothing, and needs MASSEY_STACK bytes of stack. Words and
+ * other numbers in bytes are high byte first. */
 #ifndef MASSEY_H
 #define MASSEY_H
 
 #include <stddef.h>
 #include <stdint.h>
+
+/* The version of these calls. It rises where a call, a record or a number
+ * changes. No call answers it, so it speaks for this header alone. */
+#define MASSEY_VERSION 1
+
+/* The stack that is enough for any of the calls. Measured, massey_report takes
+ * 48,176 bytes and massey_listing 4,488. */
+#define MASSEY_STACK 65536
+
+/* ---- sizes */
+
+/* The machine: words of memory, one for each address, and registers. */
+#define MASSEY_MEMORY_WORDS 256
+#define MASSEY_REGISTERS 16
+
+/* The field of a text: the least buffer of massey_disassemble. A text may fill
+ * it, and then has no zero behind it. */
+#define MASSEY_TEXT 32
+
+/* A listing: the longest image that is served, in bytes, the bytes of a line,
+ * and the longest listing, that of 256 words. A buffer of that length is never
+ * too short. */
+#define MASSEY_LISTING_INPUT 512
+#define MASSEY_LISTING_LINE 45
+#define MASSEY_LISTING_LENGTH 11709
+
+/* A guarded run: the most breakpoints, and the largest budget. It has a mark
+ * for each word of memory, whatever the image's length. */
+#define MASSEY_BREAKPOINTS 256
+#define MASSEY_BUDGET 1000000
+
+/* A report: the longest input that is served, the least buffer, which is also
+ * the longest report, and the most trace records in one. */
+#define MASSEY_REPORT_INPUT 1036
+#define MASSEY_REPORT_LENGTH 33930
+#define MASSEY_TRACE 512
+
+/* ---- refusals: a refused call answers minus one of these, and where several
+ * hold, the lowest. massey_disassemble can be refused 5, massey_listing 1, 5
+ * and 6, massey_report 1 to 6. */
+enum massey_refusal {
+    MASSEY_REFUSED_IMAGE = 1,       /* an image over 256 words */
+    MASSEY_REFUSED_MARKS = 2,       /* a mark that is not 0 or 1 */
+    MASSEY_REFUSED_BREAKPOINTS = 3, /* over 256 breakpoints */
+    MASSEY_REFUSED_BUDGET = 4,      /* a budget over 1,000,000 */
+    MASSEY_REFUSED_BUFFER = 5,      /* an output buffer that is too short */
+    MASSEY_REFUSED_INPUT = 6        /* an input shorter or longer than its
+                                       counts say, or an odd byte (listing) */
+};
+
+/* ---- marks: one byte for each address in the input, and one in each record of
+ * kind 02, 05, 06 and 08. A marked value is written as zeros. */
+enum massey_mark {
+    MASSEY_OPEN = 0,
+    MASSEY_MARKED = 1
+};
+
+/* ---- records of a report: a kind byte, and a body whose length goes by the
+ * kind. They stand in the order of their kinds. */
+enum massey_record {
+    MASSEY_RECORD_HEAD = 0x01,       /* image length 2, budget 8, breakpoint
+                                        count 2 */
+    MASSEY_RECORD_START = 0x02,      /* address 1, mark 1, value 2, disassembly
+                                        32; one for each word of memory */
+    MASSEY_RECORD_BREAKPOINT = 0x03, /* address 1; in the given order */
+    MASSEY_RECORD_TRACE = 0x04,      /* number 8, address 1, phase 1, text 32;
+                                        the oldest first */
+    MASSEY_RECORD_REGISTER = 0x05,   /* index 1, mark 1, value 2; one for each
+                                        register */
+    MASSEY_RECORD_WORD = 0x06,       /* address 1, mark 1, value 2; one for each
+                                        word of memory, as the run left it */
+    MASSEY_RECORD_TOUCHED = 0x07,    /* address 1; in order of first writing */
+    MASSEY_RECORD_END = 0x08         /* stop 1, PC 1, IR 2, MAR 1, MDR's mark 1,
+                                        MDR 2, instructions 8, micro operations
+                                        8, bus reads 8, bus writes 8, fault
+                                        kind 1, its word 2, its address 1 */
+};
+
+/* The length of a whole record of each kind, its kind byte included. */
+#define MASSEY_RECORD_HEAD_LENGTH 13
+#define MASSEY_RECORD_START_LENGTH 37
+#define MASSEY_RECORD_BREAKPOINT_LENGTH 2
+#define MASSEY_RECORD_TRACE_LENGTH 43
+#define MASSEY_RECORD_REGISTER_LENGTH 5
+#define MASSEY_RECORD_WORD_LENGTH 5
+#define MASSEY_RECORD_TOUCHED_LENGTH 2
+#define MASSEY_RECORD_END_LENGTH 45
+
+/* The phase of a trace record. 1 and 3, decode and halt, stand in none. */
+enum massey_phase {
+    MASSEY_PHASE_FETCH = 0,
+    MASSEY_PHASE_EXECUTE = 2
+};
+
+/* Why a guarded run stopped: the end record's first number. */
+enum massey_stop {
+    MASSEY_STOP_HALTED = 0,
+    MASSEY_STOP_BREAKPOINT = 1,
+    MASSEY_STOP_FAULT = 2,       /* a word without an opcode */
+    MASSEY_STOP_BUDGET = 3,
+    MASSEY_STOP_HIDDEN_WORD = 4, /* the word at PC is marked */
+    MASSEY_STOP_HIDDEN_JUMP = 5  /* a jump would test a marked register */
+};
+
+/* The end record's fault. The budget's is that of stop 3, with IR as its word
+ * and PC as its address. */
+enum massey_fault {
+    MASSEY_FAULT_NONE = 0, /* word and address are 0 */
+    MASSEY_FAULT_UNKNOWN = 1,
+    MASSEY_FAULT_BUDGET = 2
+};
 
 #ifdef __cplusplus
 extern "C" {
@@ -26,58 +143,14 @@ int64_t massey_listing(const uint8_t *image, size_t image_len, uint8_t *out,
 
 /* Makes a guarded run and writes its report to the start of out, keeps the bytes
  * past it, and answers its length, at most 33,930. The input is that of the
- * program massey_report, numbers high byte first: image length 2 bytes, the
- * words 2 each, 256 marks 1 each, budget 8, breakpoint count 2, the breakpoints
- * 1 each. Refused is -1 an image length over 256, else -2 a mark that is not 0
- * or 1, else -3 a breakpoint count over 256, else -4 a budget over 1,000,000,
- * all of these where the number, or all the marks, are there; else -5 where out
- * has under 33,930 bytes, else -6 where the input is shorter or longer than its
- * counts say. */
+ * program massey_report: image length 2 bytes, the words 2 each, 256 marks 1
+ * each, budget 8, breakpoint count 2, the breakpoints 1 each. Refused is -1 an
+ * image length over 256, else -2 a mark that is not 0 or 1, else -3 a breakpoint
+ * count over 256, else -4 a budget over 1,000,000, all of these where the
+ * number, or all the marks, are there; else -5 where out has under 33,930 bytes,
+ * else -6 where the input is shorter or longer than its counts say. */
 int64_t massey_report(const uint8_t *input, size_t input_len, uint8_t *out,
                       size_t out_len);
-
-/* The next eight load the image's whole words, of which the first 256 count, on
- * a new machine, and cannot be refused. They are for timing: each puts one of
- * the machine's calls to work and answers a number that shows what was done. */
-
-/* Makes so many micro operations one at a time, then runs the machine with that
- * budget of instructions and these breakpoints, one byte each, and answers its
- * number of micro operations. */
-uint64_t massey_run(const uint8_t *image, size_t image_len, uint64_t ticks,
-                    uint64_t budget, const uint8_t *breakpoints,
-                    size_t breakpoints_len);
-
-/* Runs the machine by the direct engine, from the start and without breakpoints,
- * and answers its number of micro operations. */
-uint64_t massey_direct_run(const uint8_t *image, size_t image_len,
-                           uint64_t budget);
-
-/* Makes n instructions one at a time, fewer where the machine halts, and answers
- * its number of micro operations. */
-uint64_t massey_steps(const uint8_t *image, size_t image_len, uint64_t n);
-
-/* The same by the direct engine, without ticks. */
-uint64_t massey_direct_steps(const uint8_t *image, size_t image_len, uint64_t n);
-
-/* The same with n micro operations one at a time. */
-uint64_t massey_ticks(const uint8_t *image, size_t image_len, uint64_t n);
-
-/* Runs the machine with that budget and no breakpoints, then asks n times whether it still runs,
- * each time with the whole check of the state, and answers how many times it was
- * told: n. */
-uint64_t massey_checks(const uint8_t *image, size_t image_len, uint64_t budget,
-                       uint64_t n);
-
-/* Saves the machine's state n times in the store, which is taken to hold count
- * records already, and answers how many it holds then. */
-uint64_t massey_pushes(const uint8_t *image, size_t image_len, uint8_t *store,
-                       size_t store_len, uint64_t count, uint64_t n);
-
-/* Undoes n times from a store that is taken to hold count records, and answers
- * how many are left. A refused call changes nothing and counts nothing. */
-uint64_t massey_undos(const uint8_t *image, size_t image_len,
-                      const uint8_t *store, size_t store_len, uint64_t count,
-                      uint64_t n);
 
 #ifdef __cplusplus
 }

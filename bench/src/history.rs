@@ -1,7 +1,7 @@
 //! Pushes at the limit of the largest history, and undoes from it. The port's
 //! records are bytes in a lent store; the original's are structs on its heap.
 
-use crate::{median, medians};
+use crate::{median, medians, timing};
 use oracle::images;
 use oracle::vm::Machine;
 use std::hint::black_box;
@@ -25,9 +25,9 @@ pub fn agree(words: &[u16], store: &mut [u8]) {
     for n in [0, 1, 100, LIMIT, LIMIT + 3] {
         let mut machine = saved(words, n);
         let count = machine.history_len() as u64;
-        assert_eq!(archive::pushes(&image, store, 0, n), count);
+        assert_eq!(timing::pushes(&image, store, 0, n), count);
         assert_eq!(
-            archive::undos(&image, store, count, count / 2),
+            timing::undos(&image, store, count, count / 2),
             count - count / 2
         );
         for _ in 0..count / 2 {
@@ -51,14 +51,14 @@ fn saved(words: &[u16], n: u64) -> Machine {
 pub fn pushing(words: &[u16], store: &mut [u8]) -> (f64, f64) {
     let image = images::bytes(words);
     let mut machine = saved(words, LIMIT);
-    archive::pushes(&image, store, 0, LIMIT);
+    timing::pushes(&image, store, 0, LIMIT);
     let mut rust = || {
         for _ in 0..PUSHES {
             black_box(&mut machine).push_history();
         }
     };
     let mut ours = || {
-        black_box(archive::pushes(black_box(&image), store, LIMIT, PUSHES));
+        black_box(timing::pushes(black_box(&image), store, LIMIT, PUSHES));
     };
     medians(PUSH_ROUNDS, PUSHES as usize, &mut rust, &mut ours)
 }
@@ -75,7 +75,7 @@ pub fn undoing(words: &[u16], changed: usize, store: &mut [u8]) -> (f64, f64) {
         other[(index * 7 + 3) % 256] ^= 0x5A5A;
     }
     let other_image = images::bytes(&other);
-    archive::pushes(&images::bytes(words), store, 0, LIMIT);
+    timing::pushes(&images::bytes(words), store, 0, LIMIT);
     let (mut rust, mut ours) = (Vec::new(), Vec::new());
     for _ in 0..UNDO_ROUNDS {
         let mut machine = saved(words, LIMIT);
@@ -83,7 +83,7 @@ pub fn undoing(words: &[u16], changed: usize, store: &mut [u8]) -> (f64, f64) {
         rust.push(each(|| while black_box(machine.undo()) {}));
         assert_eq!(machine.touched.len(), changed);
         ours.push(each(|| {
-            black_box(archive::undos(black_box(&other_image), store, LIMIT, LIMIT));
+            black_box(timing::undos(black_box(&other_image), store, LIMIT, LIMIT));
         }));
     }
     (median(rust), median(ours))

@@ -2,7 +2,7 @@
 //! port's calls take the machine by value and check its state each time; the
 //! original's borrow it and check nothing.
 
-use crate::medians;
+use crate::{medians, timing};
 use oracle::images;
 use oracle::vm::Machine;
 use std::hint::black_box;
@@ -12,8 +12,6 @@ pub const RUN_ROUNDS: usize = 12;
 const ROUNDS: usize = 60;
 pub const BUDGET: u64 = 1_000_000;
 const CALLS: u64 = 1_000;
-/// Enough instructions that the trace is full when its texts are checked.
-const WARM: u64 = 200;
 /// As many breakpoints as a guarded run may have, at an address that no program
 /// comes to.
 pub const BREAKPOINTS: [u8; 256] = [0xFE; 256];
@@ -46,15 +44,14 @@ pub fn agree(programs: &[Vec<u16>]) {
         let image = images::bytes(words);
         assert!(runs_on(words), "a halted machine has nothing to do");
         for n in [0, 1, 2, 7, 100, CALLS] {
-            assert_eq!(archive::steps(&image, n), steps(words, n));
-            assert_eq!(archive::direct_steps(&image, n), steps(words, n));
-            assert_eq!(archive::ticks(&image, n), ticks(words, n));
-            assert_eq!(archive::checks(&image, WARM, n), n);
+            assert_eq!(timing::steps(&image, n), steps(words, n));
+            assert_eq!(timing::direct_steps(&image, n), steps(words, n));
+            assert_eq!(timing::ticks(&image, n), ticks(words, n));
         }
         for n in ENDS.into_iter().chain([BUDGET]) {
-            assert_eq!(archive::direct_run(&image, n), run(words, 0, n, &[]));
+            assert_eq!(timing::direct_run(&image, n), run(words, 0, n, &[]));
             for (ticks, breakpoints) in [(0, &[][..]), (0, &BREAKPOINTS), (2, &[]), (5, &[])] {
-                let ours = archive::run(&image, ticks, n, breakpoints);
+                let ours = timing::run(&image, ticks, n, breakpoints);
                 assert_eq!(ours, run(words, ticks, n, breakpoints));
             }
         }
@@ -112,16 +109,15 @@ pub struct Call {
     ours: fn(&[u8]) -> u64,
 }
 
-/// A whole run counts as one call. The check of the state is beside an
-/// instruction of the original, which checks nothing.
-pub const CALLS_TIMED: [Call; 8] = [
+/// A whole run counts as one call.
+pub const CALLS_TIMED: [Call; 7] = [
     Call {
         name: "`run`, budget 1,000,000",
         limit: RUN_LIMIT,
         rounds: RUN_ROUNDS,
         calls: 1,
         rust: |words| run(words, 0, BUDGET, &[]),
-        ours: |image| archive::run(image, 0, BUDGET, &[]),
+        ours: |image| timing::run(image, 0, BUDGET, &[]),
     },
     Call {
         name: "the same with 256 breakpoints",
@@ -129,7 +125,7 @@ pub const CALLS_TIMED: [Call; 8] = [
         rounds: RUN_ROUNDS,
         calls: 1,
         rust: |words| run(words, 0, BUDGET, &BREAKPOINTS),
-        ours: |image| archive::run(image, 0, BUDGET, &BREAKPOINTS),
+        ours: |image| timing::run(image, 0, BUDGET, &BREAKPOINTS),
     },
     Call {
         name: "the same, begun in mid-instruction",
@@ -137,7 +133,7 @@ pub const CALLS_TIMED: [Call; 8] = [
         rounds: RUN_ROUNDS,
         calls: 1,
         rust: |words| run(words, 2, BUDGET, &[]),
-        ours: |image| archive::run(image, 2, BUDGET, &[]),
+        ours: |image| timing::run(image, 2, BUDGET, &[]),
     },
     Call {
         name: "`direct_run`, to a `run`",
@@ -145,7 +141,7 @@ pub const CALLS_TIMED: [Call; 8] = [
         rounds: RUN_ROUNDS,
         calls: 1,
         rust: |words| run(words, 0, BUDGET, &[]),
-        ours: |image| archive::direct_run(image, BUDGET),
+        ours: |image| timing::direct_run(image, BUDGET),
     },
     Call {
         name: "`step_instruction`",
@@ -153,7 +149,7 @@ pub const CALLS_TIMED: [Call; 8] = [
         rounds: ROUNDS,
         calls: CALLS,
         rust: |words| steps(words, CALLS),
-        ours: |image| archive::steps(image, CALLS),
+        ours: |image| timing::steps(image, CALLS),
     },
     Call {
         name: "`direct_instruction`, to a `step_instruction`",
@@ -161,7 +157,7 @@ pub const CALLS_TIMED: [Call; 8] = [
         rounds: ROUNDS,
         calls: CALLS,
         rust: |words| steps(words, CALLS),
-        ours: |image| archive::direct_steps(image, CALLS),
+        ours: |image| timing::direct_steps(image, CALLS),
     },
     Call {
         name: "`micro_step`",
@@ -169,15 +165,7 @@ pub const CALLS_TIMED: [Call; 8] = [
         rounds: ROUNDS,
         calls: CALLS,
         rust: |words| ticks(words, CALLS),
-        ours: |image| archive::ticks(image, CALLS),
-    },
-    Call {
-        name: "the state's check, to a `step_instruction`",
-        limit: "0.5",
-        rounds: ROUNDS,
-        calls: CALLS,
-        rust: |words| steps(words, CALLS),
-        ours: |image| archive::checks(image, WARM, CALLS),
+        ours: |image| timing::ticks(image, CALLS),
     },
 ];
 

@@ -5,6 +5,7 @@
 mod history;
 mod machine;
 mod report;
+mod timing;
 
 use oracle::random::Random;
 use oracle::{disasm, images};

@@ -75,10 +75,9 @@ module _ (n : ℕ) {k : ℕ} {ds : List ℕ} (small : n < 2 ^ 64) (f : Fewest 10
       c₂ ∙ rw (c₁, is-decimal)
       (writtens-eq d at ((k, decimal n) ∷ (length t, t) ∷ []) (count, (refl, tt)) (omega arith))
 
--- a line of two pieces, made in `d`: the bytes up to its end are written to `out`
-pub two-pieces : (out d a b : List ℕ) (at : ℕ) {o₁ o₂ t w : List ℕ} {size : ℕ} → at ≡ length a → at ≤ length d → o₁ ≡ over d 0 a → o₂ ≡ over o₁ at b → size ≡ at + length b → t ≡ take size o₂ → w ≡ written out 0 t
-    → (size ≡ length (a ++ b)) × (w ≡ written out 0 (a ++ b))
-two-pieces out d a b at {o₁} {o₂} {t} {w} {size} m h c₁ c₂ s e v =
+-- a line of two pieces, made in `d`: the bytes up to its end are the line
+pub two-pieces : (d a b : List ℕ) (at : ℕ) {o₁ o₂ t : List ℕ} {size : ℕ} → at ≡ length a → at ≤ length d → o₁ ≡ over d 0 a → o₂ ≡ over o₁ at b → size ≡ at + length b → t ≡ take size o₂ → t ≡ a ++ b
+two-pieces d a b at {o₁} {o₂} {t} {size} m h c₁ c₂ s e =
     let l : size ≡ length (a ++ b) = s ∙ rw m (sym (length-append a b)) in
     let o : o₂ ≡ over d 0 (a ++ b) = c₂ ∙ rw c₁ (over-over d 0 a b at (omega arith) (omega arith)) in
-    (l, v ∙ ap (written out 0) (e ∙ rw (l, o) (take-over d (a ++ b))))
+    e ∙ rw (l, o) (take-over d (a ++ b))

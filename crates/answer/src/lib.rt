@@ -1,11 +1,16 @@
-// What a program answers: the first bytes of a buffer, which are a call's result, the line of its
-// refusal, or the line of a replay.
+// A program's input, and what it answers: the first bytes of a buffer, which are a call's result, the
+// line of its refusal, or the line of a replay.
+mod input;
+
+pub use input::Input;
+pub use input::read_input;
 ghost use mathlib.Core.Path.{_≡_};
 ghost use mathlib.Core.List.{_++_};
 ghost use Prim.Native.Nat.{_+_, _≤_};
 ghost use lib.ListN.{length, take};
-ghost use Rattle.encoding.specs.Bytes.{over, written};
+ghost use Rattle.encoding.specs.Bytes.{over};
 ghost use Rattle.answer.specs.Line.{decimal, refusalLine, countsLine};
+ghost use Rattle.answer.specs.Answer.{outcome, answerOutcome};
 use encoding::put_bytes;
 
 // The first `n` bytes, or all where there are fewer.
@@ -34,25 +39,35 @@ fn put_numbered(line: &mut [u8], at: usize, n: u64, text: &[u8]) -> usize
     end + text.len()
 }
 
-// Puts `refused N` and a line feed at the start of `out`, where they fit; what is answered is the
-// line's length.
+// Puts an answer at the start of `out`, where it fits; what is answered is its length, and 0 where
+// it does not fit.
+fn put_whole(out: &mut [u8], bytes: &[u8]) -> usize
+    ensures { λ r. ⌜ outcome r (now (out .exit)) ≡ answerOutcome (now (bytes .entry)) (now (out .entry)) ⌝ }
+{
+    let size = bytes.len();
+    if out.len() < size {
+        return 0;
+    }
+    put_bytes(out, 0, bytes);
+    size
+}
+
+// The same for `refused N` and a line feed.
 pub fn put_refusal(out: &mut [u8], number: u8) -> usize
-    ensures { λ r. ⌜ (r ≡ length (refusalLine number)) × (now (out .exit) ≡ written (now (out .entry)) 0 (refusalLine number)) ⌝ }
+    ensures { λ r. ⌜ outcome r (now (out .exit)) ≡ answerOutcome (refusalLine number) (now (out .entry)) ⌝ }
 {
     let mut line = [0u8; 64];
     put_bytes(&mut line, 0, b"refused ");
     let size = put_numbered(&mut line, 8, number as u64, b"\n");
-    put_bytes(out, 0, first(&line, size));
-    size
+    put_whole(out, first(&line, size))
 }
 
 // The same for `N passed, M failed` and a line feed.
 pub fn put_counts(out: &mut [u8], passed: u64, failed: u64) -> usize
-    ensures { λ r. ⌜ (r ≡ length (countsLine passed failed)) × (now (out .exit) ≡ written (now (out .entry)) 0 (countsLine passed failed)) ⌝ }
+    ensures { λ r. ⌜ outcome r (now (out .exit)) ≡ answerOutcome (countsLine passed failed) (now (out .entry)) ⌝ }
 {
     let mut line = [0u8; 64];
     let middle = put_numbered(&mut line, 0, passed, b" passed, ");
     let size = put_numbered(&mut line, middle, failed, b" failed\n");
-    put_bytes(out, 0, first(&line, size));
-    size
+    put_whole(out, first(&line, size))
 }

@@ -1,4 +1,5 @@
 pub mod Operation
+pub mod Codes
 pub mod Lawful
 pub mod Count
 pub mod Last

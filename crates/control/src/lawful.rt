@@ -3,6 +3,7 @@ ghost use mathlib.Core.Path.{_≡_};
 ghost use Rattle.control.specs.Lawful.{lawful};
 use crate::control::Control;
 use isa::Instruction;
+use plan::FETCH_TICKS;
 use plan::execute_tick_count;
 
 // Where it is not, each call on the machine is refused 8.
@@ -16,13 +17,13 @@ pub fn is_lawful(c: Control) -> bool
     if c.halted {
         return true;
     }
-    if tick < 4 {
+    if tick < FETCH_TICKS {
         return true;
     }
     let n = execute_tick_count(Instruction::from_word(c.ir).opcode());
     let e = c.execute_ticks;
     if e == n {
-        return tick - 4 < e;
+        return tick - FETCH_TICKS < e;
     }
     false
 }

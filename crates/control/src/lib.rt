@@ -1,10 +1,16 @@
 // What one tick reads and leaves, by value; how it counts; and which states of the control unit a machine
 // can be in: what every layer above speaks of, and no tick itself.
+mod codes;
 mod control;
 mod counters;
 mod last;
 mod lawful;
 
+pub use codes::AluCode;
+pub use codes::FaultCode;
+pub use codes::TransferCode;
+pub use codes::WordCode;
+pub use codes::WriteCode;
 pub use control::AluOperation;
 pub use control::AluRecord;
 pub use control::BusTransfer;

@@ -157,7 +157,7 @@ abbrev pub ahead : ℕ → Slots → Ahead
 ahead k s = record { made = k; lane = s .lane; memory = s .memory; registers = s .registers; touched = s .touched; marks = s .marks; registerMarks = s .registerMarks }
 
 abbrev pub aheadOf : Made → List ℕ → List ℕ → List ℕ → List ℕ → List ℕ → Ahead
-aheadOf r m w t x y = record { made = r .made; lane = r .lane; memory = m; registers = w; touched = t; marks = x; registerMarks = y }
+aheadOf r m w t x y = record { made = r .made .0; lane = r .lane; memory = m; registers = w; touched = t; marks = x; registerMarks = y }
 
 -- at most n stretches more, where k instructions were made: the table of breakpoints
 unfoldable pub leads : List ℕ → ℕ → Ahead → ℕ → Slots → Ahead

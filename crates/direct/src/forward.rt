@@ -7,6 +7,7 @@ use crate::light::light_stretch;
 use crate::table::first_table;
 use crate::table::table_of;
 use control::Counters;
+use guard::Begun;
 use isa::MEMORY_WORDS;
 use isa::REGISTER_COUNT;
 
@@ -17,22 +18,22 @@ const STRETCH: u64 = 256;
 const ROOMY: u64 = 18446744073709549808;
 
 // How long the next stretch may be: none where a counter comes near its end in it.
-fn stretch_length(k: Counters) -> u64
-    ensures { λ r. ⌜ r ≡ lengthFor k ⌝ }
+fn stretch_length(k: Counters) -> Begun
+    ensures { λ r. ⌜ r .0 ≡ lengthFor k ⌝ }
 {
     if ROOMY < k.instructions {
-        return 0;
+        return Begun(0);
     }
     if ROOMY < k.micro_operations {
-        return 0;
+        return Begun(0);
     }
     if ROOMY < k.bus_reads {
-        return 0;
+        return Begun(0);
     }
     if ROOMY < k.bus_writes {
-        return 0;
+        return Begun(0);
     }
-    STRETCH
+    Begun(STRETCH)
 }
 
 // At most `limit` instructions, stretch after stretch on copies, as long as each is made whole: the lent arrays stay
@@ -40,7 +41,7 @@ fn stretch_length(k: Counters) -> u64
 // of 0.
 pub fn light_forward(
     from: Lane,
-    limit: u64,
+    limit: Begun,
     breakpoints: &[u8],
     memory: &mut [u16; MEMORY_WORDS],
     registers: &mut [u16; REGISTER_COUNT],
@@ -49,14 +50,15 @@ pub fn light_forward(
     register_marks: &mut [u8; REGISTER_COUNT],
 ) -> Made
     ensures { λ r. ⌜ aheadOf r (now (memory .exit)) (now (registers .exit)) (now (touched .exit)) (now (marks .exit)) (now («register_marks» .exit))
-        ≡ forward (now (breakpoints .entry)) limit from (now (memory .entry)) (now (registers .entry)) (now (touched .entry))
+        ≡ forward (now (breakpoints .entry)) (limit .0) from (now (memory .entry)) (now (registers .entry)) (now (touched .entry))
         (now (marks .entry)) (now («register_marks» .entry)) ⌝ }
 {
-    let mut left = limit / STRETCH;
+    let most = limit.0;
+    let mut left = most / STRETCH;
     if left == 0 {
         return Made {
             lane: from,
-            made: 0,
+            made: Begun(0),
         };
     }
     let breaks = table_of(breakpoints);
@@ -74,7 +76,7 @@ pub fn light_forward(
         if left == 0 {
             return Made {
                 lane: kept,
-                made: kept_made,
+                made: Begun(kept_made),
             };
         }
         let memory3 = memory2;
@@ -95,10 +97,10 @@ pub fn light_forward(
             &mut marks2,
             &mut register_marks2,
         );
-        if m.made != STRETCH {
+        if m.made.0 != STRETCH {
             return Made {
                 lane: kept,
-                made: kept_made,
+                made: Begun(kept_made),
             };
         }
         *memory = memory3;

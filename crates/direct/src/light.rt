@@ -7,6 +7,7 @@ use crate::work::read_operands;
 use crate::work::work_of;
 use control::AluRecord;
 use control::Counters;
+use guard::Begun;
 use guard::may_go;
 use isa::Decoded;
 use isa::Instruction;
@@ -216,7 +217,7 @@ fn light_known(
 // How many instructions were made, and what is small after them.
 pub struct Made {
     pub lane: Lane,
-    pub made: u64,
+    pub made: Begun,
 }
 
 // What a word decodes to where the run goes on behind it: HALT ends a run, as a word without an opcode does.
@@ -246,7 +247,7 @@ fn lasting(decoded: Decoded) -> Decoded
 // Instructions as long as they pass and run on, at most `limit`; `breaks` is the table of breakpoints.
 pub(crate) fn light_stretch(
     from: Lane,
-    limit: u64,
+    limit: Begun,
     breaks: &[u8; MEMORY_WORDS],
     memory: &mut [u16; MEMORY_WORDS],
     registers: &mut [u16; REGISTER_COUNT],
@@ -255,21 +256,28 @@ pub(crate) fn light_stretch(
     marks: &mut [u8; MEMORY_WORDS],
     register_marks: &mut [u8; REGISTER_COUNT],
 ) -> Made
-    ensures { λ r. ⌜ stretched (r .made) (left (r .lane) memory registers touched seen marks «register_marks»)
-        ≡ stretch (now (breaks .entry)) limit 0 (came from memory registers touched seen marks «register_marks») ⌝ }
+    ensures { λ r. ⌜ stretched (r .made .0) (left (r .lane) memory registers touched seen marks «register_marks»)
+        ≡ stretch (now (breaks .entry)) (limit .0) 0 (came from memory registers touched seen marks «register_marks») ⌝ }
 {
+    let most = limit.0;
     let mut s = from;
     let mut made: u64 = 0;
     loop {
         let at = s.pc as usize;
         let word = memory[at];
-        let go = may_go(made < limit, breaks[at], marks[at], word, register_marks);
+        let go = may_go(made < most, breaks[at], marks[at], word, register_marks);
         if !go {
-            return Made { lane: s, made };
+            return Made {
+                lane: s,
+                made: Begun(made),
+            };
         }
         let decoded = lasting(Instruction::from_word(word).opcode());
         let Decoded::Known(opcode) = decoded else {
-            return Made { lane: s, made };
+            return Made {
+                lane: s,
+                made: Begun(made),
+            };
         };
         let next = light_known(
             opcode,

@@ -22,6 +22,7 @@ use isa::Decoded;
 use isa::Instruction;
 use isa::MEMORY_WORDS;
 use isa::REGISTER_COUNT;
+use plan::FETCH_TICKS;
 use plan::execute_tick_count;
 use trace::COLUMNS_LENGTH;
 use trace::Ring;
@@ -114,7 +115,7 @@ pub fn whole_instruction(
     let alu = old.last_alu;
     let decoded = Instruction::from_word(word).opcode();
     let taken = taken_by(word, registers);
-    let ticks = 4 + execute_tick_count(decoded);
+    let ticks = FETCH_TICKS + execute_tick_count(decoded);
     let o = read_operands(word, memory, registers);
     let next = std::num::wrapping_add_u8(address, 1);
     let work = work_of(decoded, word, next, alu, o);

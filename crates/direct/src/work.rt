@@ -14,6 +14,7 @@ use isa::Decoded;
 use isa::MEMORY_WORDS;
 use isa::Opcode;
 use isa::REGISTER_COUNT;
+use plan::FETCH_TICKS;
 use plan::execute_tick_count;
 use tick::shifted_left;
 use tick::shifted_right;
@@ -279,7 +280,10 @@ pub(crate) fn count_whole(decoded: Decoded, bus: BusTransfer, k: Counters) -> Co
 {
     let ticks = execute_tick_count(decoded);
     let instructions = count_instruction(counted(decoded), k.instructions);
-    let micro_operations = std::num::wrapping_add_u64(k.micro_operations, 4 + ticks as u64);
+    let micro_operations = std::num::wrapping_add_u64(
+        k.micro_operations,
+        FETCH_TICKS as u64 + ticks as u64,
+    );
     let first = std::num::wrapping_add_u64(k.bus_reads, 1);
     match bus {
         BusTransfer::Idle => Counters {

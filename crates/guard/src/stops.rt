@@ -4,7 +4,8 @@ ghost use Prim.Native.Nat.{_-_};
 ghost use lib.Dec.{eqb};
 ghost use Rattle.control.specs.Count.{overCounted};
 ghost use Rattle.marks.specs.Marks.{marked};
-ghost use Rattle.guard.specs.Stops.{reached, haltStop, verdictIf, runVerdictOf, stopNumber, haltedStop, isJump, hiddenJump, guardIf, verdictOf, passes};
+ghost use Rattle.guard.specs.Stops.{reached, haltStop, verdictIf, runVerdictOf, runRefusal, runNumber, runAddress};
+ghost use Rattle.guard.specs.Stops.{stopNumber, haltedStop, isJump, hiddenJump, guardIf, verdictOf, passes};
 use control::Counters;
 use control::Fault;
 use control::State;
@@ -16,6 +17,9 @@ use isa::Opcode;
 use isa::REGISTER_COUNT;
 use marks::hides;
 
+// A number of instructions begun.
+pub struct Begun(pub u64);
+
 // Why the machine stopped running. `Refused` has the refusal's number, and stands for no stop.
 pub enum RunStop {
     Halted,
@@ -26,11 +30,55 @@ pub enum RunStop {
     Refused(u8),
 }
 
+impl RunStop {
+    // The number of the refusal, 0 where there is none.
+    pub fn refusal(self) -> u8
+        ensures { λ r. ⌜ r ≡ runRefusal self ⌝ }
+    {
+        match self {
+            RunStop::Halted => 0,
+            RunStop::Breakpoint(_) => 0,
+            RunStop::Fault => 0,
+            RunStop::Budget => 0,
+            RunStop::AlreadyHalted => 0,
+            RunStop::Refused(number) => number,
+        }
+    }
+
+    // The number of the stop, 0 beside a refusal.
+    pub fn number(self) -> u8
+        ensures { λ r. ⌜ r ≡ runNumber self ⌝ }
+    {
+        match self {
+            RunStop::Halted => 0,
+            RunStop::Breakpoint(_) => 1,
+            RunStop::Fault => 2,
+            RunStop::Budget => 3,
+            RunStop::AlreadyHalted => 6,
+            RunStop::Refused(_) => 0,
+        }
+    }
+
+    // The breakpoint that was met, 0 for any other stop.
+    pub fn address(self) -> u8
+        ensures { λ r. ⌜ r ≡ runAddress self ⌝ }
+    {
+        match self {
+            RunStop::Halted => 0,
+            RunStop::Breakpoint(address) => address,
+            RunStop::Fault => 0,
+            RunStop::Budget => 0,
+            RunStop::AlreadyHalted => 0,
+            RunStop::Refused(_) => 0,
+        }
+    }
+}
+
 // A breakpoint, never before the first instruction.
-fn at_break(breakpoints: &[u8], begun: u64, pc: u8) -> bool
-    ensures { λ r. ⌜ r ≡ reached (now (breakpoints .entry)) begun pc ⌝ }
+fn at_break(breakpoints: &[u8], begun: Begun, pc: u8) -> bool
+    ensures { λ r. ⌜ r ≡ reached (now (breakpoints .entry)) (begun .0) pc ⌝ }
 {
-    if begun == 0 {
+    if begun.0 == 0 {
         return false;
     }
     contains(breakpoints, pc)
@@ -57,10 +105,11 @@ pub fn run_verdict(
     state: State,
     counters: Counters,
     breakpoints: &[u8],
-    begun: u64,
-    limit: u64,
+    begun: Begun,
+    limit: Begun,
 ) -> RunVerdict
-    ensures { λ r. ⌜ runVerdictOf r ≡ verdictIf (state .control .halted) (reached (now (breakpoints .entry)) begun (state .control .pc)) (eqb (limit - begun) 0) (overCounted counters) state ⌝ }
+    ensures { λ r. ⌜ runVerdictOf r ≡ verdictIf (state .control .halted) (reached (now (breakpoints .entry)) (begun .0) (state .control .pc))
+        (eqb (limit .0 - begun .0) 0) (overCounted counters) state ⌝ }
 {
     if state.control.halted {
         let fault = state.fault;
@@ -72,7 +121,7 @@ pub fn run_verdict(
     if broken {
         return RunVerdict::Stop(RunStop::Breakpoint(pc));
     }
-    if limit <= begun {
+    if limit.0 <= begun.0 {
         return RunVerdict::Stop(RunStop::Budget);
     }
     let over = is_over_counted(counters);
@@ -171,13 +220,14 @@ pub enum Verdict {
 pub fn judge(
     state: State,
     breakpoints: &[u8],
-    begun: u64,
-    budget: u64,
+    begun: Begun,
+    budget: Begun,
     word: u16,
     mark: u8,
     registers: &[u8; REGISTER_COUNT],
 ) -> Verdict
-    ensures { λ r. ⌜ verdictOf r ≡ guardIf (state .control .halted) (reached (now (breakpoints .entry)) begun (state .control .pc)) (eqb (budget - begun) 0) (marked mark) (hiddenJump marked word (now (registers .entry))) (state .fault) ⌝ }
+    ensures { λ r. ⌜ verdictOf r ≡ guardIf (state .control .halted) (reached (now (breakpoints .entry)) (begun .0) (state .control .pc))
+        (eqb (budget .0 - begun .0) 0) (marked mark) (hiddenJump marked word (now (registers .entry))) (state .fault) ⌝ }
 {
     if state.control.halted {
         let fault = state.fault;
@@ -188,7 +238,7 @@ pub fn judge(
     if broken {
         return Verdict::Stop(GuardedStop::Breakpoint);
     }
-    if budget <= begun {
+    if budget.0 <= begun.0 {
         return Verdict::Stop(GuardedStop::Budget);
     }
     if hides(mark) {

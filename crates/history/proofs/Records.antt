@@ -12,10 +12,11 @@ use Rattle.encoding.specs.Bytes.{over, bigEndian, bigEndians, number, numbers}
 use Rattle.encoding.proofs.Written.{Sized, length-joined, overs-eq}
 use Rattle.encoding.proofs.Numbers.{length-bigEndian, length-bigEndians, length-numbers, number-below, number-bigEndian, numbers-bigEndians}
 use Rattle.control.specs.Lawful.{lawful}
+use Rattle.control.specs.Codes.{faultCode}
 use Rattle.control.specs.declared.control.Control.{Control}
 use Rattle.control.specs.declared.control.Fault.{Fault}
 use Rattle.control.specs.declared.control.Fault.the-variants.{Healthy, UnknownInstruction, StepBudgetExhausted}
-use Rattle.history.specs.Record.{recordLength, codeOf, bit, frontBytes, stateBytes, countBytes, memoryBytes, recordBytes, controlIn, faultOf, faultIn, snapshotIn, isRecord, found, recordIn, Fits, isGood}
+use Rattle.history.specs.Record.{recordLength, bit, frontBytes, stateBytes, countBytes, memoryBytes, recordBytes, controlIn, faultOf, faultIn, snapshotIn, isRecord, found, recordIn, Fits, isGood}
 use Rattle.history.specs.declared.snapshot.Snapshot.{Snapshot}
 use Rattle.history.proofs.Parts.{number-cut, numbers-cut}
 
@@ -25,7 +26,7 @@ abbrev frontOf : Snapshot → List ℕ
 frontOf s = frontBytes (s .control .pc) (s .control .ir) (s .registers)
 
 abbrev countsOf : Snapshot → List ℕ
-countsOf s = countBytes (codeOf (s .fault)) (s .instructions) (s .«micro_operations»)
+countsOf s = countBytes (faultCode (s .fault)) (s .instructions) (s .«micro_operations»)
 
 abbrev pieces : Snapshot → List (ℕ × List ℕ)
 pieces s = (35, frontOf s) ∷ (7, stateBytes (s .control)) ∷ (20, countsOf s) ∷ (514, memoryBytes (s .memory)) ∷ []
@@ -106,17 +107,17 @@ module _ (l : List ℕ) where
 
 -- ---- what is written is read back
 
-fault-back : (f : Fault) → faultOf (codeOf f .kind) (codeOf f .word) (codeOf f .address) ≡ f
+fault-back : (f : Fault) → faultOf (faultCode f .kind) (faultCode f .word) (faultCode f .address) ≡ f
 fault-back Healthy = refl
 fault-back (UnknownInstruction w a) = refl
 fault-back (StepBudgetExhausted w a) = refl
 
-kind-known : (f : Fault) → leb (codeOf f .kind) 2 ≡ true
+kind-known : (f : Fault) → leb (faultCode f .kind) 2 ≡ true
 kind-known Healthy = refl
 kind-known (UnknownInstruction w a) = refl
 kind-known (StepBudgetExhausted w a) = refl
 
-kind-small : (f : Fault) → codeOf f .kind < 256
+kind-small : (f : Fault) → faultCode f .kind < 256
 kind-small Healthy = lit< tt
 kind-small (UnknownInstruction w a) = lit< tt
 kind-small (StepBudgetExhausted w a) = lit< tt
@@ -187,17 +188,17 @@ module _ (s : Snapshot) (f : Fits s) (rest : List ℕ) where
         halted = (ap (λ (n : ℕ). eqb n 1) halted-byte ∙ bit-back (c .halted)) i;
       }
 
-  kind-back : number 1 (drop 42 bytes) ≡ codeOf (s .fault) .kind
+  kind-back : number 1 (drop 42 bytes) ≡ faultCode (s .fault) .kind
   unfolding stateBytes countBytes bigEndian
-  kind-back = ap (number 1) (past 7) ∙ number-bigEndian 1 (codeOf (s .fault) .kind) _ (kind-small (s .fault))
+  kind-back = ap (number 1) (past 7) ∙ number-bigEndian 1 (faultCode (s .fault) .kind) _ (kind-small (s .fault))
 
-  word-back : number 2 (drop 43 bytes) ≡ codeOf (s .fault) .word
+  word-back : number 2 (drop 43 bytes) ≡ faultCode (s .fault) .word
   unfolding stateBytes countBytes bigEndian
-  word-back = ap (number 2) (past 8) ∙ number-bigEndian 2 (codeOf (s .fault) .word) _ (f .fault-word)
+  word-back = ap (number 2) (past 8) ∙ number-bigEndian 2 (faultCode (s .fault) .word) _ (f .fault-word)
 
-  address-back : number 1 (drop 45 bytes) ≡ codeOf (s .fault) .address
+  address-back : number 1 (drop 45 bytes) ≡ faultCode (s .fault) .address
   unfolding stateBytes countBytes bigEndian
-  address-back = ap (number 1) (past 10) ∙ number-bigEndian 1 (codeOf (s .fault) .address) _ (f .fault-address)
+  address-back = ap (number 1) (past 10) ∙ number-bigEndian 1 (faultCode (s .fault) .address) _ (f .fault-address)
 
   instructions-back : number 8 (drop 46 bytes) ≡ s .instructions
   unfolding stateBytes countBytes bigEndian
@@ -246,18 +247,18 @@ numbers-below w (suc c) l b zero = number-below w l b
 numbers-below w (suc c) l b (suc i) = numbers-below w c (drop w l) (λ j. rw getD-drop (b (w + j))) i
 
 -- no fault has zeros for word and address
-fault-word-below : (kind w a high : ℕ) → 0 < high → w < high → codeOf (faultOf kind w a) .word < high
+fault-word-below : (kind w a high : ℕ) → 0 < high → w < high → faultCode (faultOf kind w a) .word < high
 fault-word-below kind w a high z h = go (eqb kind 1) (eqb kind 2)
   where
-    go : (s t : Bool) → codeOf (cond s (UnknownInstruction w a) (cond t (StepBudgetExhausted w a) Healthy)) .word < high
+    go : (s t : Bool) → faultCode (cond s (UnknownInstruction w a) (cond t (StepBudgetExhausted w a) Healthy)) .word < high
     go true t = h
     go false true = h
     go false false = z
 
-fault-address-below : (kind w a high : ℕ) → 0 < high → a < high → codeOf (faultOf kind w a) .address < high
+fault-address-below : (kind w a high : ℕ) → 0 < high → a < high → faultCode (faultOf kind w a) .address < high
 fault-address-below kind w a high z h = go (eqb kind 1) (eqb kind 2)
   where
-    go : (s t : Bool) → codeOf (cond s (UnknownInstruction w a) (cond t (StepBudgetExhausted w a) Healthy)) .address < high
+    go : (s t : Bool) → faultCode (cond s (UnknownInstruction w a) (cond t (StepBudgetExhausted w a) Healthy)) .address < high
     go true t = h
     go false true = h
     go false false = z

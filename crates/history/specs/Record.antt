@@ -9,10 +9,11 @@ use lib.ListN.{length, drop, getD, replicate}
 use Rattle.isa.specs.Sizes.{memoryWords, registerCount}
 use Rattle.encoding.specs.Bytes.{bigEndian, bigEndians, number, numbers}
 use Rattle.control.specs.Lawful.{lawful}
+use Rattle.control.specs.Codes.{faultCode}
+use Rattle.control.specs.declared.codes.FaultCode.{FaultCode}
 use Rattle.control.specs.declared.control.Control.{Control}
 use Rattle.control.specs.declared.control.Fault.{Fault}
 use Rattle.control.specs.declared.control.Fault.the-variants.{Healthy, UnknownInstruction, StepBudgetExhausted}
-use Rattle.history.specs.declared.layout.FaultCode.{FaultCode}
 use Rattle.history.specs.declared.snapshot.Newest.{Newest}
 use Rattle.history.specs.declared.snapshot.Snapshot.{Snapshot}
 
@@ -20,12 +21,6 @@ abbrev pub recordLength : ℕ
 recordLength = 576
 
 -- ---- written
-
--- a fault as kind, word and address; no fault as zeros
-abbrev pub codeOf : Fault → FaultCode
-codeOf Healthy = record { kind = 0; word = 0; address = 0 }
-codeOf (UnknownInstruction w a) = record { kind = 1; word = w; address = a }
-codeOf (StepBudgetExhausted w a) = record { kind = 2; word = w; address = a }
 
 abbrev pub bit : Bool → ℕ
 bit b = cond b 1 0
@@ -56,7 +51,7 @@ unfoldable pub recordBytes : Snapshot → List ℕ
 recordBytes s =
     frontBytes (s .control .pc) (s .control .ir) (s .registers)
     ++ (stateBytes (s .control)
-    ++ (countBytes (codeOf (s .fault)) (s .instructions) (s .«micro_operations») ++ memoryBytes (s .memory)))
+    ++ (countBytes (faultCode (s .fault)) (s .instructions) (s .«micro_operations») ++ memoryBytes (s .memory)))
 
 -- ---- read
 
@@ -129,8 +124,8 @@ pub record Fits (s : Snapshot) : Type 0 where
   pub address : s .control .«instruction_address» < 256
   pub tick : s .control .tick < 256
   pub ticks : s .control .«execute_ticks» < 256
-  pub fault-word : codeOf (s .fault) .word < 65536
-  pub fault-address : codeOf (s .fault) .address < 256
+  pub fault-word : faultCode (s .fault) .word < 65536
+  pub fault-address : faultCode (s .fault) .address < 256
   pub instructions : s .instructions < 2 ^ 64
   pub operations : s .«micro_operations» < 2 ^ 64
   pub many : length (s .memory) ≡ memoryWords

@@ -3,12 +3,14 @@ ghost use mathlib.Core.Path.{_≡_};
 ghost use Prim.Native.Nat.{_+_, _*_, _≤_};
 ghost use lib.ListN.{length, drop};
 ghost use Rattle.encoding.specs.Bytes.{over, number};
-ghost use Rattle.history.specs.Record.{recordLength, codeOf, bit, frontBytes, stateBytes, countBytes, memoryBytes, recordBytes, controlIn, faultIn, faultOf, isRecord, snapshotIn, recordIn};
+ghost use Rattle.history.specs.Record.{recordLength, bit, frontBytes, stateBytes, countBytes, memoryBytes, recordBytes};
+ghost use Rattle.history.specs.Record.{controlIn, faultIn, faultOf, isRecord, snapshotIn, recordIn};
 use crate::snapshot::Newest;
 use crate::snapshot::Snapshot;
 use crate::snapshot::no_record;
 use control::Control;
 use control::Fault;
+use control::FaultCode;
 use control::is_lawful;
 use encoding::get_number;
 use encoding::get_words;
@@ -18,35 +20,6 @@ use isa::MEMORY_WORDS;
 use isa::REGISTER_COUNT;
 
 pub(crate) const RECORD_LENGTH: usize = 576;
-
-// A fault as a record has it.
-pub(crate) struct FaultCode {
-    pub kind: u8,
-    pub word: u16,
-    pub address: u8,
-}
-
-fn fault_code(fault: Fault) -> FaultCode
-    ensures { λ r. ⌜ r ≡ codeOf fault ⌝ }
-{
-    match fault {
-        Fault::Healthy => FaultCode {
-            kind: 0,
-            word: 0,
-            address: 0,
-        },
-        Fault::UnknownInstruction { word, address } => FaultCode {
-            kind: 1,
-            word,
-            address,
-        },
-        Fault::StepBudgetExhausted { word, address } => FaultCode {
-            kind: 2,
-            word,
-            address,
-        },
-    }
-}
 
 fn fault_of(kind: u8, word: u16, address: u8) -> Fault
     ensures { λ r. ⌜ r ≡ faultOf kind word address ⌝ }
@@ -119,7 +92,7 @@ pub(crate) fn encode(part: &mut [u8], snapshot: Snapshot)
     let memory = snapshot.memory;
     let control = snapshot.control;
     let fault = snapshot.fault;
-    let code = fault_code(fault);
+    let code = fault.code();
     put_front(part, control.pc, control.ir, &registers);
     put_state(part, control);
     put_counts(part, code, snapshot.instructions, snapshot.micro_operations);

@@ -1,6 +1,6 @@
 -- The laws of whole listings: the head, the length, and the answers.
 -- Assumes nothing.
-use Prim.Native.Nat.{ℕ, _+_, _*_, _/_, _%_, _≤_, _<_}
+use Prim.Native.Nat.{ℕ, zero, suc, _+_, _*_, _/_, _%_, _≤_, _<_}
 use native.Mathlib.Omega.{arith}
 use mathlib.Core.Bool.{Bool, true, false, cond}
 use mathlib.Core.Path.{_≡_, refl, ap, _∙_}
@@ -16,7 +16,7 @@ use Rattle.encoding.specs.Bytes.{over, written, eachFrom, numbers, readWords}
 use Rattle.encoding.proofs.Written.{length-over, over-over, written-fits, overs-eq, length-each}
 use Rattle.encoding.proofs.Numbers.{length-numbers}
 use Rattle.listing.specs.declared.Listed.the-variants.{Written, Refused}
-use Rattle.listing.specs.Listing.{lineOf, decimal, wordsText, headStart, headEnd, headLength, headOf, listingOf, listingLength, outcome, unlessRefused, listingOutcome, bytesOutcome}
+use Rattle.listing.specs.Listing.{lineOf, decimal, wordsText, headStart, headEnd, headLength, headOf, listingOf, listingLength, outcome, unlessRefused, listingOutcome, bytesRefusal, bytesListing, bytesOutcome}
 use Rattle.listing.proofs.Lines.{text-length, length-line-of}
 
 -- ---- the head
@@ -194,18 +194,36 @@ module _ (image out : List ℕ) where
       rw (length-numbers 2 (length image / 2) image)
       (simp (le-ltb 256 (length image / 2) g, le-ltb (length out) (listingLength (length image / 2)) (rw e at h), eq-eqb (length image % 2) 0 k))
 
--- a length that is answered is that of a listing of at most 256 words
-module _ (image out : List ℕ) {n : ℕ} where
-  answered : (a b e : Bool) → ltb 256 (length image / 2) ≡ a
-      → unlessRefused (cond (eqb (cond a 1 (cond b 5 0)) 0) (cond e 0 6) (cond a 1 (cond b 5 0))) out (outcome (Written (listingLength (length image / 2))) (over out 0 (listingOf (numbers 2 (length image / 2) image)))) .answer ≡ Written n
-      → n ≤ 11709
-  answered true b e q h = let z : _≡_ {A = ℕ} 0 1 = cc in omega arith
-  answered false true e q h = let z : _≡_ {A = ℕ} 0 1 = cc in omega arith
-  answered false false false q h = let z : _≡_ {A = ℕ} 0 1 = cc in omega arith
-  answered false false true q h =
-      let same : listingLength (length image / 2) ≡ n = cc in
-      rw same at (listing-at-most (length image / 2) (ltb-false 256 (length image / 2) q))
+-- the listing of words in bytes
+pub length-bytes : (image : List ℕ) → length (bytesListing image) ≡ listingLength (length image / 2)
+length-bytes image = length-listing (numbers 2 (length image / 2) image) ∙ ap listingLength (length-numbers 2 (length image / 2) image)
 
-  pub bytes-at-most : bytesOutcome image out .answer ≡ Written n → n ≤ 11709
+-- what is told of words in bytes: the refusal's number, and a length that is at most that of 256 words
+module _ (image out : List ℕ) where
+  told-refusal : (n k : ℕ) (o : List ℕ) → unlessRefused n out (outcome (Written k) o) .answer .refused ≡ n
+  told-refusal zero k o = refl
+  told-refusal (suc n) k o = refl
+
+  pub bytes-refused : bytesOutcome image out .answer .refused ≡ bytesRefusal (length image) (length out)
   unfolding bytesOutcome
-  bytes-at-most h = answered (ltb 256 (length image / 2)) (ltb (length out) (listingLength (length image / 2))) (eqb (length image % 2) 0) refl h
+  bytes-refused = told-refusal (bytesRefusal (length image) (length out)) (listingLength (length image / 2)) (over out 0 (bytesListing image))
+
+  at-most : (a b e : Bool) → ltb 256 (length image / 2) ≡ a
+      → unlessRefused (cond (eqb (cond a 1 (cond b 5 0)) 0) (cond e 0 6) (cond a 1 (cond b 5 0))) out (outcome (Written (listingLength (length image / 2))) (over out 0 (bytesListing image))) .answer .length ≤ 11709
+  at-most true b e q = lit≤ tt
+  at-most false true e q = lit≤ tt
+  at-most false false false q = lit≤ tt
+  at-most false false true q = listing-at-most (length image / 2) (ltb-false 256 (length image / 2) q)
+
+  pub bytes-at-most : bytesOutcome image out .answer .length ≤ 11709
+  unfolding bytesOutcome
+  bytes-at-most = at-most (ltb 256 (length image / 2)) (ltb (length out) (listingLength (length image / 2))) (eqb (length image % 2) 0) refl
+
+  -- the listing of a call that is served has room
+  room : (a b e : Bool) → ltb (length out) (listingLength (length image / 2)) ≡ b → _≡_ {A = ℕ} (cond (eqb (cond a 1 (cond b 5 0)) 0) (cond e 0 6) (cond a 1 (cond b 5 0))) 0 → listingLength (length image / 2) ≤ length out
+  room true b e q z = absurd (omega arith)
+  room false true e q z = absurd (omega arith)
+  room false false e q z = ltb-false (length out) (listingLength (length image / 2)) q
+
+  pub bytes-room : bytesRefusal (length image) (length out) ≡ 0 → listingLength (length image / 2) ≤ length out
+  bytes-room z = room (ltb 256 (length image / 2)) (ltb (length out) (listingLength (length image / 2))) (eqb (length image % 2) 0) refl z

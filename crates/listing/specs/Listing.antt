@@ -125,13 +125,22 @@ headLength n = cond (eqb n 1) 186 (cond (ltb n 10) 187 (cond (ltb n 100) 188 189
 abbrev pub listingLength : ℕ → ℕ
 listingLength n = headLength n + 45 * n
 
+-- what a call answers by 01's number (its last paragraph): that of the refusal, 0 for none, and the listing's length, 0 where refused
+pub record Told : Type 0 where
+  pub refused : ℕ
+  pub length : ℕ
+
+abbrev pub told : Listed → Told
+told (Written n) = record { refused = 0; length = n }
+told (Refused n) = record { refused = n; length = 0 }
+
 -- what a call answers, and the buffer that it leaves
 pub record Outcome : Type 0 where
-  pub answer : Listed
+  pub answer : Told
   pub buffer : List ℕ
 
 abbrev pub outcome : Listed → List ℕ → Outcome
-outcome a b = record { answer = a; buffer = b }
+outcome a b = record { answer = told a; buffer = b }
 
 -- the number of the refusal and the buffer as it was; where there is none, the second
 abbrev pub unlessRefused : ℕ → List ℕ → Outcome → Outcome
@@ -152,7 +161,10 @@ listingOutcome ws out =
 abbrev pub bytesRefusal : ℕ → ℕ → ℕ
 bytesRefusal n room = cond (eqb (listingRefusal (n / 2) room) 0) (cond (eqb (n % 2) 0) 0 6) (listingRefusal (n / 2) room)
 
+abbrev pub bytesListing : List ℕ → List ℕ
+bytesListing image = listingOf (numbers 2 (length image / 2) image)
+
 unfoldable pub bytesOutcome : List ℕ → List ℕ → Outcome
 bytesOutcome image out =
     unlessRefused (bytesRefusal (length image) (length out)) out
-    (outcome (Written (listingLength (length image / 2))) (over out 0 (listingOf (numbers 2 (length image / 2) image))))
+    (outcome (Written (listingLength (length image / 2))) (over out 0 (bytesListing image)))

@@ -2,7 +2,7 @@
 -- Assumes nothing.
 use Prim.Native.Nat.{ℕ, zero, suc, _≤_, _<_}
 use native.Mathlib.Omega.{arith}
-use mathlib.Core.Path.{_≡_, _∙_}
+use mathlib.Core.Path.{_≡_, refl, _∙_}
 use mathlib.Core.List.{List}
 use borrow.Author.Tests.{lt-ltb, le-ltb}
 use lib.IntN.{pos, negℤ, _-ℤ_, +ℤ-idl}
@@ -16,7 +16,7 @@ use Rattle.encoding.proofs.Written.{written-fits}
 use Rattle.disasm.specs.Disassembly.{disassembleText}
 use Rattle.disasm.proofs.Texts.{disassembly-short, disassembly-padded}
 use Rattle.report.specs.Public.{reportLimit}
-use Rattle.massey.specs.Calls.{outcome, lengthOf, refused, disassembleOutcome}
+use Rattle.massey.specs.Calls.{outcome, lengthOf, refused, numberOf, disassembleOutcome}
 
 -- ---- lengths and refusals as signed numbers
 
@@ -37,8 +37,12 @@ negative (suc n) h = record { sfits = omega arith }
 pub minus-fits : {n : ℕ} → n ≤ 255 → SFits w64 (pos 0 -ℤ toZ w64 n)
 minus-fits {n} h = rw (minus h) (negative n h)
 
-pub refusal-read : {n : ℕ} → n ≤ 255 → toZ w64 (ofZ w64 (pos 0 -ℤ toZ w64 n)) ≡ refused n
-refusal-read {n} h = toZ-ofZ w64 (pos 0 -ℤ toZ w64 n) (minus-fits h) ∙ minus h
+number-refused : (n : ℕ) → refused n ≡ numberOf n 0
+number-refused zero = refl
+number-refused (suc n) = refl
+
+pub refusal-read : {n : ℕ} → n ≤ 255 → toZ w64 (ofZ w64 (pos 0 -ℤ toZ w64 n)) ≡ numberOf n 0
+refusal-read {n} h = toZ-ofZ w64 (pos 0 -ℤ toZ w64 n) (minus-fits h) ∙ minus h ∙ number-refused n
 
 -- ---- a word's text
 

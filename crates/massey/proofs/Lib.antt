@@ -1,4 +1,3 @@
--- `Answers` has the laws of `specs/Calls.antt`, `Machines` those of `specs/Machine.antt`, `Loops` those of its loops.
+-- `Answers` has the laws of `specs/Calls.antt`, `Demands` proves `specs/Demand.antt`.
 pub mod Answers
-pub mod Machines
-pub mod Loops
+pub mod Demands

@@ -1,6 +1,6 @@
 -- The calls of the archive: a length where the call is served, and minus the refusal's number where it is not (01, section 1).
 -- Assumes nothing.
-use Prim.Native.Nat.{ℕ}
+use Prim.Native.Nat.{ℕ, zero, suc}
 use mathlib.Core.Bool.{cond}
 use mathlib.Core.List.{List}
 use lib.Dec.{ltb}
@@ -11,10 +11,6 @@ use Rattle.isa.specs.Text.{padded}
 use Rattle.encoding.specs.Bytes.{over}
 use Rattle.disasm.specs.Disassembly.{disassembleText}
 use Rattle.listing.specs.Listing.{bytesOutcome}
-use Rattle.listing.specs.declared.Listed.{Listed}
-use Rattle.listing.specs.declared.Listed.the-variants.{Written, Refused}
-use Rattle.report.specs.declared.Reported.{Reported}
-use Rattle.report.specs.declared.Reported.the-variants.{Written as ReportWritten, Refused as ReportRefused}
 use Rattle.report.specs.Program as program
 
 -- what a call answers, and the buffer that it leaves
@@ -37,18 +33,18 @@ disassembleOutcome w out =
     cond (ltb (length out) textWidth) (outcome (refused 5) out)
     (outcome (lengthOf (length (disassembleText w))) (over out 0 (padded textWidth (disassembleText w))))
 
--- the answer of the listing as a number
-abbrev pub listedNumber : Listed → ℤ
-listedNumber (Written n) = lengthOf n
-listedNumber (Refused n) = refused n
+-- what is told of a listing or a report as one number: the length, or minus the refusal's number
+abbrev pub numberOf : ℕ → ℕ → ℤ
+numberOf zero size = lengthOf size
+numberOf (suc n) size = refused (suc n)
 
 unfoldable pub listingOutcome : List ℕ → List ℕ → Outcome
-listingOutcome image out = outcome (listedNumber (bytesOutcome image out .answer)) (bytesOutcome image out .buffer)
+listingOutcome image out =
+    let o = bytesOutcome image out in
+    outcome (numberOf (o .answer .refused) (o .answer .length)) (o .buffer)
 
 -- the same of a report (01, section 6), for the report program's input
-abbrev pub reportedNumber : Reported → ℤ
-reportedNumber (ReportWritten n) = lengthOf n
-reportedNumber (ReportRefused n) = refused n
-
 unfoldable pub reportedOutcome : List ℕ → List ℕ → Outcome
-reportedOutcome input out = outcome (reportedNumber (program.bytesOutcome input out .answer)) (program.bytesOutcome input out .buffer)
+reportedOutcome input out =
+    let o = program.bytesOutcome input out in
+    outcome (numberOf (o .answer .refused) (o .answer .length)) (o .buffer)

@@ -1,8 +1,5 @@
 // The calls that C and Rust link, on numbers and bytes: include/massey.h. A call answers a length,
 // or minus the refusal's number, and lays no condition on its caller.
-mod machine;
-mod undo;
-
 ghost use mathlib.Core.Path.{_≡_};
 ghost use Rattle.massey.specs.Calls.{outcome, disassembleOutcome, listingOutcome, reportedOutcome};
 use disasm::disassemble_into;

@@ -1,11 +1,8 @@
-// What each command does, and its answer.
-use crate::dump::write_dump;
+// What each command does, and its answer in lent bytes.
+use crate::dump::append_machine;
 use crate::output::append;
-use crate::output::first;
-use crate::output::write_answer;
 use crate::set::set_byte;
 use crate::set::set_field;
-use crate::state::phase_number;
 use crate::state::transfer_number;
 use crate::state::write_number;
 use encoding::get_number;
@@ -22,26 +19,42 @@ use vm::MicroOp;
 use vm::Ran;
 use vm::Served;
 
+// The machine after a command, and how many bytes its answer has.
+pub(crate) struct Replied {
+    pub machine: Machine,
+    pub len: usize,
+}
+
+// An answer's first byte is the refusal. What stands behind it counts where the call was served.
+fn put_refusal(out: &mut [u8], refused: u8, len: usize) -> usize {
+    put_number(out, 0, 1, refused as u64);
+    if refused == 0 { len } else { 1 }
+}
+
 // A call that answers nothing more than its refusal.
-fn served(s: Served) -> Machine {
-    write_answer(s.refused, b"");
-    s.machine
+fn served(s: Served, out: &mut [u8]) -> Replied {
+    let machine = s.machine;
+    let len = put_refusal(out, s.refused, 1);
+    Replied { machine, len }
 }
 
 // A new machine is never refused.
-fn renewed() -> Machine {
-    write_answer(0, b"");
-    Machine::new()
+fn renewed() -> Served {
+    let machine = Machine::new();
+    Served {
+        machine,
+        refused: 0,
+    }
 }
 
 // Takes the image out of the command into `words`, which has just its length, and loads it.
-fn load_words(m: Machine, command: &[u8], words: &mut [u16]) -> Machine {
+fn load_words(m: Machine, command: &[u8], words: &mut [u16]) -> Served {
     get_words(command, 3, words);
-    served(m.load_image(words))
+    m.load_image(words)
 }
 
 // `load_image`. An image counts up to 256 words, so more than 512 need not be handed over.
-fn load(m: Machine, command: &[u8]) -> Machine {
+fn load(m: Machine, command: &[u8]) -> Served {
     let count = get_number(command, 1, 2) as usize;
     let mut words = [0u16; 512];
     if count < 512 {
@@ -50,7 +63,7 @@ fn load(m: Machine, command: &[u8]) -> Machine {
     load_words(m, command, &mut words)
 }
 
-// What a tick reports, 45 bytes.
+// What a tick reports, 45 bytes behind the refusal.
 fn put_op(out: &mut [u8], op: MicroOp) {
     let text = op.text;
     let bytes = text.bytes;
@@ -58,26 +71,26 @@ fn put_op(out: &mut [u8], op: MicroOp) {
     let bus = op.bus;
     let write = op.write;
     let ends = [
-        phase_number(phase),
+        phase.number(),
         op.ends_instruction as u8,
         op.halts as u8,
         op.faulted as u8,
     ];
-    put_bytes(out, 0, &bytes);
-    put_bytes(out, 32, &ends);
-    put_number(out, 36, 4, transfer_number(bus));
-    put_number(out, 40, 4, write_number(write));
-    put_number(out, 44, 1, op.address as u64);
+    put_bytes(out, 1, &bytes);
+    put_bytes(out, 33, &ends);
+    put_number(out, 37, 4, transfer_number(bus));
+    put_number(out, 41, 4, write_number(write));
+    put_number(out, 45, 1, op.address as u64);
 }
 
 // `micro_step`.
-fn micro(m: Machine) -> Machine {
+fn micro(m: Machine, out: &mut [u8]) -> Replied {
     let a = m.micro_step();
     let op = a.op;
-    let mut bytes = [0u8; 45];
-    put_op(&mut bytes, op);
-    write_answer(a.refused, &bytes);
-    a.machine
+    let machine = a.machine;
+    put_op(out, op);
+    let len = put_refusal(out, a.refused, 46);
+    Replied { machine, len }
 }
 
 // A text's 32 bytes.
@@ -100,114 +113,99 @@ fn append_texts(out: &mut [u8], from: usize, texts: [Text; 7], n: usize) -> usiz
     at
 }
 
-// What an instruction reports. Its length goes by the number of ticks.
+// What an instruction reports, behind the refusal. Its length goes by the number of ticks.
 fn put_report(out: &mut [u8], r: InstructionReport) -> usize {
     let plan = r.micro_ops;
     let texts = plan.texts;
     let text = r.text;
     let ends = [r.halted as u8, r.faulted as u8];
-    put_number(out, 0, 1, r.address as u64);
-    put_number(out, 1, 2, r.word as u64);
-    append_text(out, 3, text);
-    put_number(out, 35, 1, plan.count as u64);
-    let at = append_texts(out, 36, texts, plan.count as usize);
+    put_number(out, 1, 1, r.address as u64);
+    put_number(out, 2, 2, r.word as u64);
+    append_text(out, 4, text);
+    put_number(out, 36, 1, plan.count as u64);
+    let at = append_texts(out, 37, texts, plan.count as usize);
     append(out, at, &ends)
 }
 
 // `step_instruction`, and the direct engine's instruction.
-fn stepped(a: InstructionAnswer) -> Machine {
+fn stepped(a: InstructionAnswer, out: &mut [u8]) -> Replied {
     let report = a.report;
-    let mut bytes = [0u8; 262];
-    let n = put_report(&mut bytes, report);
-    write_answer(a.refused, first(&bytes, n));
-    a.machine
+    let machine = a.machine;
+    let end = put_report(out, report);
+    let len = put_refusal(out, a.refused, end);
+    Replied { machine, len }
 }
 
-// The refusal of a run, 0 where it was served.
-fn run_refusal(stop: RunStop) -> u8 {
-    match stop {
-        RunStop::Halted => 0,
-        RunStop::Breakpoint(_) => 0,
-        RunStop::Fault => 0,
-        RunStop::Budget => 0,
-        RunStop::AlreadyHalted => 0,
-        RunStop::Refused(number) => number,
-    }
-}
-
-// The two bytes of a stop: its kind, and the breakpoint's address.
-fn stop_number(stop: RunStop) -> u64 {
-    match stop {
-        RunStop::Halted => 0,
-        RunStop::Breakpoint(address) => 256 + address as u64,
-        RunStop::Fault => 512,
-        RunStop::Budget => 768,
-        RunStop::AlreadyHalted => 1536,
-        RunStop::Refused(_) => 0,
-    }
+// What a run tells: its stop, and how many instructions it made.
+fn put_ran(out: &mut [u8], stop: RunStop, executed: Begun) -> usize {
+    let kind = [stop.number(), stop.address()];
+    put_bytes(out, 1, &kind);
+    put_number(out, 3, 8, executed.0);
+    put_refusal(out, stop.refusal(), 11)
 }
 
 // `run`, and the direct engine's run.
-fn ran(r: Ran) -> Machine {
+fn ran(r: Ran, out: &mut [u8]) -> Replied {
     let stop = r.stop;
-    let executed = r.executed;
-    let mut bytes = [0u8; 10];
-    put_number(&mut bytes, 0, 2, stop_number(stop));
-    put_number(&mut bytes, 2, 8, executed.0);
-    write_answer(run_refusal(stop), &bytes);
-    r.machine
+    let machine = r.machine;
+    let len = put_ran(out, stop, r.executed);
+    Replied { machine, len }
 }
 
-// A run by either. The breakpoints are what the command has behind its first 11 bytes.
-fn run(m: Machine, command: &[u8], direct: bool) -> Machine {
+// The breakpoints are what the command has behind its first 11 bytes.
+fn breakpoints(command: &[u8]) -> &[u8] {
     if command.len() < 11 {
-        return m;
+        command
+    } else {
+        &command[11..]
     }
-    let budget = get_number(command, 1, 8);
-    if direct {
-        return ran(m.direct_run(Begun(budget), &command[11..]));
-    }
-    ran(m.run(Begun(budget), &command[11..]))
 }
 
 // A dump leaves the machine as it is.
-fn dumped(m: Machine, store: &[u8]) -> Machine {
-    write_dump(m, store);
-    m
+fn dumped(m: Machine, store: &[u8], out: &mut [u8]) -> Replied {
+    let end = append_machine(out, m);
+    let len = append(out, end, store);
+    Replied { machine: m, len }
 }
 
-// So does a byte of the store.
-fn stored(m: Machine, command: &[u8], store: &mut [u8]) -> Machine {
+// A command that sets something answers nothing.
+fn silent(machine: Machine) -> Replied {
+    Replied { machine, len: 0 }
+}
+
+// A byte of the store leaves the machine as it is.
+fn stored(m: Machine, command: &[u8], store: &mut [u8]) -> Replied {
     set_byte(store, command);
-    m
+    silent(m)
 }
 
-// The machine after a command that leaves the store alone.
-fn called(m: Machine, command: &[u8]) -> Machine {
+// The calls that answer nothing more than their refusal.
+fn serve(m: Machine, command: &[u8], store: &mut [u8]) -> Served {
     let kind = get_number(command, 0, 1);
     match kind {
-        0x00 => renewed(),
         0x01 => load(m, command),
-        0x02 => served(m.reset()),
-        0x03 => served(m.clear()),
-        0x04 => micro(m),
-        0x05 => stepped(m.step_instruction()),
-        0x06 => run(m, command, false),
-        0x09 => served(m.clear_history()),
-        0x0D => stepped(m.direct_instruction()),
-        0x0E => run(m, command, true),
-        _ => set_field(m, command),
+        0x02 => m.reset(),
+        0x03 => m.clear(),
+        0x07 => m.push_history(store),
+        0x08 => m.undo(store),
+        0x09 => m.clear_history(),
+        _ => renewed(),
     }
 }
 
 // The machine after a command, one of the table's, whose operands are all there.
-pub(crate) fn answer(m: Machine, command: &[u8], store: &mut [u8]) -> Machine {
+pub(crate) fn reply(m: Machine, command: &[u8], store: &mut [u8], out: &mut [u8]) -> Replied {
     let kind = get_number(command, 0, 1);
+    let budget = get_number(command, 1, 8);
     match kind {
-        0x07 => served(m.push_history(store)),
-        0x08 => served(m.undo(store)),
-        0x0A => dumped(m, store),
+        0x04 => micro(m, out),
+        0x05 => stepped(m.step_instruction(), out),
+        0x06 => ran(m.run(Begun(budget), breakpoints(command)), out),
+        0x0A => dumped(m, store, out),
+        0x0B => silent(set_field(m, command)),
         0x0C => stored(m, command, store),
-        _ => called(m, command),
+        0x0D => stepped(m.direct_instruction(), out),
+        0x0E => ran(m.direct_run(Begun(budget), breakpoints(command)), out),
+        _ => served(serve(m, command, store), out),
     }
 }

@@ -1,26 +1,22 @@
-// The dump: the whole machine, and the store behind it.
+// The dump of the whole machine.
 use crate::output::append;
 use crate::output::append_words;
-use crate::output::first;
 use crate::state::alu_number;
 use crate::state::control_number;
 use crate::state::fault_number;
 use crate::state::transfer_number;
+use answer::first;
 use control::Control;
 use control::Counters;
 use control::State;
 use encoding::put_bytes;
 use encoding::put_number;
 use encoding::put_words;
-use libc::STDOUT_FILENO;
 use trace::ADDRESSES_AT;
 use trace::COLUMNS_LENGTH;
 use trace::PHASES_AT;
 use trace::TRACE_LIMIT;
 use vm::Machine;
-
-// The longest dump of a machine: with every address touched and a full trace.
-const MACHINE: usize = 23396;
 
 // The first 42 bytes: the control unit, with the registers behind PC and IR.
 fn put_registers(out: &mut [u8], c: Control, registers: &[u16]) {
@@ -165,19 +161,11 @@ fn append_trace(out: &mut [u8], at: usize, m: Machine) -> usize {
     )
 }
 
-// The whole machine.
-fn append_machine(out: &mut [u8], m: Machine) -> usize {
+// The whole machine: 23,396 bytes at most, with every address touched and a full trace.
+pub(crate) fn append_machine(out: &mut [u8], m: Machine) -> usize {
     let small = append_state(out, 0, m);
     let filled = append_memory(out, small, m);
     let touched = append_touched(out, filled, m);
     let traced = append_trace(out, touched, m);
     append_count(out, traced, m.history_len, 4)
-}
-
-// Writes the machine, and the store from its own place.
-pub(crate) fn write_dump(m: Machine, store: &[u8]) {
-    let mut bytes = [0u8; MACHINE];
-    let n = append_machine(&mut bytes, m);
-    io::write_all(STDOUT_FILENO, first(&bytes, n));
-    io::write_all(STDOUT_FILENO, store);
 }

@@ -1,17 +1,12 @@
 // The commands of an input, one after the other.
-ghost use Prim.Native.Nat.{_<_};
-use crate::calls::answer;
+ghost use Prim.Native.Nat.{_<_, _≤_};
+ghost use lib.ListN.{length};
+use crate::calls::reply;
 use crate::output::write_malformed;
+use answer::first;
 use encoding::get_number;
+use libc::STDOUT_FILENO;
 use vm::Machine;
-
-// How far a list has come: the machine, and where the next command begins. `sound` is false where
-// the last one was malformed.
-pub struct Progress {
-    pub machine: Machine,
-    pub at: usize,
-    pub sound: bool,
-}
 
 // The count in two bytes, 0 where they are not both there. The remainder says that it is small.
 fn count_at(bytes: &[u8], at: usize) -> usize
@@ -34,61 +29,33 @@ fn length_of(rest: &[u8]) -> usize {
     }
 }
 
-// The list where its next command is malformed.
-fn malformed(p: Progress) -> Progress {
-    let mut q = p;
-    q.sound = false;
-    q
+// The same where all of them are there, and 0 where the command is malformed.
+fn whole_length(rest: &[u8]) -> usize
+    ensures { λ r. ⌜ r ≤ length (now (rest .entry)) ⌝ }
+{
+    let n = length_of(rest);
+    if rest.len() < n {
+        return 0;
+    }
+    n
 }
 
-// The list after its next command.
-fn advanced(p: Progress, input: &[u8], store: &mut [u8]) -> Progress {
-    let at = p.at;
-    if input.len() <= at {
-        return malformed(p);
-    }
-    let n = length_of(&input[at..]);
-    if n == 0 {
-        return malformed(p);
-    }
-    if input.len() - at < n {
-        return malformed(p);
-    }
-    let end = at + n;
-    let before = p.machine;
-    let machine = answer(before, &input[at..end], store);
-    Progress {
-        machine,
-        at: end,
-        sound: true,
-    }
-}
-
-// The list before its first command, which stands behind the store's length.
-fn started() -> Progress {
-    let machine = Machine::new();
-    Progress {
-        machine,
-        at: 4,
-        sound: true,
-    }
-}
-
-// Plays the commands to the input's end, or to the first that is malformed. A command takes a byte
-// at least, so the turns are enough.
-pub(crate) fn play(input: &[u8], store: &mut [u8]) {
-    let mut p = started();
-    let mut turns = input.len();
-    while turns > 0 {
-        turns -= 1;
-        if input.len() <= p.at {
-            return;
-        }
-        let q = advanced(p, input, store);
-        if !q.sound {
+// Plays the commands to the input's end, to the first that is malformed, or to the first answer that
+// is not taken whole: what was written is then the beginning of what was due.
+pub(crate) fn play(commands: &[u8], store: &mut [u8], out: &mut [u8]) {
+    let mut machine = Machine::new();
+    let mut rest = commands;
+    while 0 < rest.len() {
+        let n = whole_length(rest);
+        if n == 0 {
             write_malformed();
             return;
         }
-        p = q;
+        let replied = reply(machine, first(rest, n), store, out);
+        if !io::write_all(STDOUT_FILENO, first(out, replied.len)) {
+            return;
+        }
+        machine = replied.machine;
+        rest = &rest[n..];
     }
 }

@@ -7,6 +7,7 @@ mod output;
 mod set;
 mod state;
 
+use answer::read_input;
 use encoding::get_number;
 use libc::STDIN_FILENO;
 use output::write_malformed;
@@ -16,6 +17,9 @@ const INPUT: usize = 262145;
 
 // The longest store.
 const STORE: u64 = 65536;
+
+// The longest answer: a dump with the longest store.
+const ANSWER: usize = 88932;
 
 // Plays an input that begins as it should: its first four bytes are the store's length.
 fn play(input: &[u8]) {
@@ -30,13 +34,17 @@ fn play(input: &[u8]) {
     }
     let len = size as usize;
     let mut store = io::large_buffer();
-    list::play(input, &mut store[0..len]);
+    let mut out = [0u8; ANSWER];
+    list::play(&input[4..], &mut store[0..len], &mut out);
 }
 
+// An input that is too long is malformed from its start, and so is one that could not be read to its
+// end.
 fn main() {
     let mut input = [0u8; INPUT];
-    let n = io::read_full(STDIN_FILENO, &mut input);
-    if n == INPUT {
+    let got = read_input(STDIN_FILENO, &mut input);
+    let n = got.len;
+    if n == INPUT || !got.whole {
         write_malformed();
         return;
     }

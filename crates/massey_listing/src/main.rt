@@ -1,7 +1,11 @@
 // The listing program: words high byte first on standard input, their listing, or `refused N` and a
 // line feed, on standard output.
+ghost use mathlib.Core.Path.{_≡_};
+ghost use Rattle.answer.specs.Answer.{outcome};
+ghost use Rattle.massey_listing.specs.Answer.{programOutcome};
 use answer::first;
 use answer::put_refusal;
+use answer::read_input;
 use libc::STDIN_FILENO;
 use libc::STDOUT_FILENO;
 use listing::Listed;
@@ -14,20 +18,25 @@ const INPUT: usize = 514;
 // The listing of 256 words.
 const LISTING: usize = 11709;
 
-fn main() {
-    let mut input = [0u8; INPUT];
-    let n = io::read_full(STDIN_FILENO, &mut input);
-    let mut out = [0u8; LISTING];
-    let listed = list_bytes(&input[..n], &mut out);
+// Puts the program's answer at the start of `out`, and answers its length.
+fn put_answer(input: &[u8], whole: bool, out: &mut [u8]) -> usize
+    ensures { λ r. ⌜ outcome r (now (out .exit)) ≡ programOutcome whole (now (input .entry)) (now (out .entry)) ⌝ }
+{
+    if !whole {
+        return put_refusal(out, 6);
+    }
+    let listed = list_bytes(input, out);
     match listed {
-        Listed::Written(size) => write_first(&out, size),
-        Listed::Refused(number) => {
-            let size = put_refusal(&mut out, number);
-            write_first(&out, size);
-        }
+        Listed::Written(size) => size,
+        Listed::Refused(number) => put_refusal(out, number),
     }
 }
 
-fn write_first(out: &[u8], size: usize) {
-    io::write_all(STDOUT_FILENO, first(out, size));
+fn main() {
+    let mut buf = [0u8; INPUT];
+    let input = read_input(STDIN_FILENO, &mut buf);
+    let n = input.len;
+    let mut out = [0u8; LISTING];
+    let size = put_answer(&buf[..n], input.whole, &mut out);
+    io::write_all(STDOUT_FILENO, first(&out, size));
 }

@@ -1,31 +1,40 @@
 // The report program: a guarded run's input on standard input, numbers high byte first, and its
 // report, or `refused N` and a line feed, on standard output.
+ghost use mathlib.Core.Path.{_≡_};
+ghost use Rattle.answer.specs.Answer.{outcome};
+ghost use Rattle.massey_report.specs.Answer.{programOutcome};
 use answer::first;
 use answer::put_refusal;
+use answer::read_input;
 use libc::STDIN_FILENO;
 use libc::STDOUT_FILENO;
+use report::INPUT_LENGTH;
 use report::REPORT_LENGTH;
 use report::Reported;
 use report::report_bytes;
 
-// The bytes that decide every answer (`first-decide`): the longest input that is served has 1,036,
-// and one more shows that an input is longer than its counts say. So the rest need not be read.
-const INPUT: usize = 1037;
-
-fn main() {
-    let mut input = [0u8; INPUT];
-    let n = io::read_full(STDIN_FILENO, &mut input);
-    let mut out = [0u8; REPORT_LENGTH];
-    let reported = report_bytes(&input[..n], &mut out);
+// Puts the answer to an input at the start of `out`, where it fits; what is answered is its length.
+// `whole` says that no read failed: a failed one is no end of the input, which may go on, so that it is
+// refused as a short one is.
+fn put_answer(input: &[u8], whole: bool, out: &mut [u8]) -> usize
+    ensures { λ r. ⌜ outcome r (now (out .exit)) ≡ programOutcome whole (now (input .entry)) (now (out .entry)) ⌝ }
+{
+    if !whole {
+        return put_refusal(out, 6);
+    }
+    let reported = report_bytes(input, out);
     match reported {
-        Reported::Written(size) => write_first(&out, size),
-        Reported::Refused(number) => {
-            let size = put_refusal(&mut out, number);
-            write_first(&out, size);
-        }
+        Reported::Written(size) => size,
+        Reported::Refused(number) => put_refusal(out, number),
     }
 }
 
-fn write_first(out: &[u8], size: usize) {
-    io::write_all(STDOUT_FILENO, first(out, size));
+// The bytes behind those that decide every answer need not be read.
+fn main() {
+    let mut buf = [0u8; INPUT_LENGTH];
+    let input = read_input(STDIN_FILENO, &mut buf);
+    let n = input.len;
+    let mut out = [0u8; REPORT_LENGTH];
+    let size = put_answer(&buf[..n], input.whole, &mut out);
+    io::write_all(STDOUT_FILENO, first(&out, size));
 }

@@ -22,6 +22,13 @@ phaseLabel Decode = "decode"
 phaseLabel Execute = "execute"
 phaseLabel Halted = "halt"
 
+-- its number (section 6, kind 04; the call program's document, 04)
+abbrev pub phaseNumber : Phase → ℕ
+phaseNumber Fetch = 0
+phaseNumber Decode = 1
+phaseNumber Execute = 2
+phaseNumber Halted = 3
+
 -- a running machine fetches in the first four ticks, and executes in the others
 abbrev pub phaseOf : ℕ → Phase
 phaseOf t = cond (ltb t 4) Fetch Execute

@@ -3,7 +3,9 @@ ghost use mathlib.Core.Path.{_≡_};
 ghost use mathlib.Core.List.{map};
 ghost use Rattle.isa.specs.Text.{ascii, text};
 ghost use Rattle.isa.specs.Format.{fillByte};
-ghost use Rattle.plan.specs.Plan.{phaseLabel, phaseOf, executeTicks, fetchText, loadText, storeText, executeText, tickText, planText, planOf};
+ghost use Rattle.plan.specs.Plan.{phaseLabel, phaseNumber, phaseOf, executeTicks, fetchText, loadText, storeText, executeText};
+ghost use Rattle.plan.specs.Plan.{tickText, planText, planOf};
+use crate::FETCH_TICKS;
 use crate::texts::add_text;
 use crate::texts::address_to_mar_text;
 use crate::texts::and_text;
@@ -53,13 +55,25 @@ impl Phase {
             Phase::Halt => Text::from_bytes(b"halt"),
         }
     }
+
+    // Its number, in a trace and in answers.
+    pub fn number(self) -> u8
+        ensures { λ r. ⌜ r ≡ phaseNumber self ⌝ }
+    {
+        match self {
+            Phase::Fetch => 0,
+            Phase::Decode => 1,
+            Phase::Execute => 2,
+            Phase::Halt => 3,
+        }
+    }
 }
 
 // The phase of a tick of a running machine.
 pub fn phase_of(tick: u8) -> Phase
     ensures { λ r. ⌜ r ≡ phaseOf tick ⌝ }
 {
-    if tick < 4 {
+    if tick < FETCH_TICKS {
         Phase::Fetch
     } else {
         Phase::Execute
@@ -158,11 +172,11 @@ fn execute_text(decoded: Decoded, n: u8, taken: bool, digits: [u8; 4]) -> Text
 pub fn tick_text(tick: u8, taken: bool, word: u16) -> Text
     ensures { λ r. ⌜ r ≡ text (tickText tick taken word) ⌝ }
 {
-    if tick < 4 {
+    if tick < FETCH_TICKS {
         return fetch_text(tick);
     }
     let decoded = Instruction::from_word(word).opcode();
-    execute_text(decoded, tick - 4, taken, digits_of(word))
+    execute_text(decoded, tick - FETCH_TICKS, taken, digits_of(word))
 }
 
 // At most seven texts, and empty ones past them: the Rust's Vec.
@@ -186,7 +200,7 @@ fn plan_text(tick: u8, count: u8, word: u16) -> Text
 pub fn transfer_plan(word: u16) -> TransferPlan
     ensures { λ r. ⌜ r ≡ planOf word ⌝ }
 {
-    let count = 4 + execute_tick_count(Instruction::from_word(word).opcode());
+    let count = FETCH_TICKS + execute_tick_count(Instruction::from_word(word).opcode());
     let texts = [
         plan_text(0, count, word),
         plan_text(1, count, word),

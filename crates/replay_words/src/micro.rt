@@ -2,7 +2,6 @@
 use crate::state::alu_of;
 use crate::state::fault_of;
 use crate::state::option_of;
-use crate::state::phase_number;
 use crate::state::put_control;
 use crate::state::put_last;
 use crate::state::transfer_number;
@@ -112,7 +111,7 @@ fn put_state(out: &mut [u8], s: State) {
 fn put_text_and_phase(out: &mut [u8], before: Control, o: Operands) {
     let tick = before.tick;
     put_text(out, 62, tick_text(tick, o.x == o.zero, before.ir));
-    put_number(out, 95, 1, phase_number(phase_of(tick)) as u64);
+    put_number(out, 95, 1, phase_of(tick).number() as u64);
 }
 
 // What the counters grow by, a byte each.

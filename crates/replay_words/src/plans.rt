@@ -1,8 +1,6 @@
 // Records of kinds 'T', 'F' and 'U': what is fixed about an instruction's ticks, and the names of
 // the phases and of the ALU's operations.
-use crate::state::operation_number;
 use crate::state::operation_of;
-use crate::state::phase_number;
 use check::same;
 use encoding::put_bytes;
 use encoding::put_number;
@@ -64,11 +62,16 @@ fn phase_of_number(number: u8) -> Phase {
 // 'F': the label of a phase.
 pub(crate) fn phase_passes(record: &[u8]) -> bool {
     let phase = phase_of_number(byte_at(record, 1));
-    name_passes(record, b'F', phase_number(phase), phase.label())
+    name_passes(record, b'F', phase.number(), phase.label())
 }
 
-// 'U': the name of an operation of the ALU.
+// 'U': the name of an operation of the ALU. Its place is one less than its number: 0 is the number of
+// none.
 pub(crate) fn operation_passes(record: &[u8]) -> bool {
     let operation = operation_of(byte_at(record, 1));
-    name_passes(record, b'U', operation_number(operation), operation.name())
+    let number = operation.number();
+    if number == 0 {
+        return false;
+    }
+    name_passes(record, b'U', number - 1, operation.name())
 }

@@ -1,5 +1,6 @@
-// The parts of a machine's state as a record has them. A number of no kind is read as some kind; the
-// question that is then due has another number, and so the record fails.
+// The parts of a machine's state as a record has them, by the library's numbers and values. A number of
+// no kind is read as some kind; the question that is then due has another number, and so the record
+// fails.
 use control::AluOperation;
 use control::AluRecord;
 use control::BusTransfer;
@@ -10,30 +11,6 @@ use control::State;
 use control::WordOption;
 use encoding::put_bytes;
 use encoding::put_number;
-use plan::Phase;
-
-// A phase's place among the phases.
-pub(crate) fn phase_number(phase: Phase) -> u8 {
-    match phase {
-        Phase::Fetch => 0,
-        Phase::Decode => 1,
-        Phase::Execute => 2,
-        Phase::Halt => 3,
-    }
-}
-
-// An operation's place among the operations.
-pub(crate) fn operation_number(operation: AluOperation) -> u8 {
-    match operation {
-        AluOperation::Add => 0,
-        AluOperation::Negate => 1,
-        AluOperation::Shr => 2,
-        AluOperation::Shl => 3,
-        AluOperation::And => 4,
-        AluOperation::Or => 5,
-        AluOperation::Xor => 6,
-    }
-}
 
 // The operation at a place.
 pub(crate) fn operation_of(number: u8) -> AluOperation {
@@ -85,44 +62,35 @@ pub(crate) fn alu_of(kind: u8, left: u16, right: WordOption, result: u16) -> Alu
     }
 }
 
+// Four bytes: two of one byte each, and a word.
+fn four_bytes(first: u8, second: u8, word: u16) -> u64 {
+    first as u64 * 0x1000000 + second as u64 * 65536 + word as u64
+}
+
 // The four bytes of a fault: its kind, word and address.
 fn fault_number(fault: Fault) -> u64 {
-    match fault {
-        Fault::Healthy => 0,
-        Fault::UnknownInstruction { word, address } => {
-            0x1000000 + word as u64 * 256 + address as u64
-        }
-        Fault::StepBudgetExhausted { word, address } => {
-            0x2000000 + word as u64 * 256 + address as u64
-        }
-    }
+    let code = fault.code();
+    code.kind as u64 * 0x1000000 + code.word as u64 * 256 + code.address as u64
 }
 
 // The four bytes of a transfer: its kind, address and value.
 pub(crate) fn transfer_number(transfer: BusTransfer) -> u64 {
-    match transfer {
-        BusTransfer::Idle => 0,
-        BusTransfer::Read { address, value } => 0x1000000 + address as u64 * 65536 + value as u64,
-        BusTransfer::Write { address, value } => 0x2000000 + address as u64 * 65536 + value as u64,
-    }
+    let code = transfer.code();
+    four_bytes(code.kind, code.address, code.value)
 }
 
 // The four bytes of the registers written: how many, which and its value.
 pub(crate) fn write_number(write: RegisterWrite) -> u64 {
-    match write {
-        RegisterWrite::Unwritten => 0,
-        RegisterWrite::Written { register, value } => {
-            0x1000000 + register as u64 * 65536 + value as u64
-        }
-    }
+    let code = write.code();
+    four_bytes(code.count, code.register, code.value)
 }
 
-// The three bytes of a word that may be missing.
-fn option_number(option: WordOption) -> u64 {
-    match option {
-        WordOption::Some(word) => 65536 + word as u64,
-        WordOption::None => 0,
-    }
+// The eight bytes of an operation of the ALU: which, its words and the result.
+fn alu_number(alu: AluRecord) -> u64 {
+    let code = alu.code();
+    let first = code.operation as u64 * 65536 + code.left as u64;
+    let second = code.right_there as u64 * 65536 + code.right as u64;
+    first * 0x10000000000 + second * 65536 + code.result as u64
 }
 
 // Nine bytes; `halted` is not among them, since only a running machine is asked.
@@ -138,26 +106,6 @@ pub(crate) fn put_control(out: &mut [u8], at: usize, c: Control) {
     put_bytes(out, at, &bytes);
 }
 
-// Eight bytes: the operation, and its words.
-fn put_alu(out: &mut [u8], at: usize, alu: AluRecord) {
-    let AluRecord::Used {
-        operation,
-        left,
-        right,
-        result,
-    } = alu
-    else {
-        put_number(out, at, 8, 0);
-        return;
-    };
-    let mut bytes = [0u8; 8];
-    put_number(&mut bytes, 0, 1, 1 + operation_number(operation) as u64);
-    put_number(&mut bytes, 1, 2, left as u64);
-    put_number(&mut bytes, 3, 3, option_number(right));
-    put_number(&mut bytes, 6, 2, result as u64);
-    put_bytes(out, at, &bytes);
-}
-
 // Sixteen bytes: the fault, the last transfer and the last operation of the ALU.
 pub(crate) fn put_last(out: &mut [u8], at: usize, s: State) {
     let fault = s.fault;
@@ -166,6 +114,6 @@ pub(crate) fn put_last(out: &mut [u8], at: usize, s: State) {
     let mut bytes = [0u8; 16];
     put_number(&mut bytes, 0, 4, fault_number(fault));
     put_number(&mut bytes, 4, 4, transfer_number(transfer));
-    put_alu(&mut bytes, 8, alu);
+    put_number(&mut bytes, 8, 8, alu_number(alu));
     put_bytes(out, at, &bytes);
 }

@@ -98,10 +98,10 @@ words-at image a h = padded-at (take 256 image) (256 - length image) a ∙ getD-
 
 -- ---- marks of 0 hide nothing, and all others hide
 
-marked-zero : (m : ℕ) → marked m ≡ false → m ≡ 0
+pub marked-zero : (m : ℕ) → marked m ≡ false → m ≡ 0
 marked-zero m e = eqb-true m 0 (not-false (eqb m 0) e)
 
-zero-marked : (m : ℕ) → m ≡ 0 → marked m ≡ false
+pub zero-marked : (m : ℕ) → m ≡ 0 → marked m ≡ false
 zero-marked m e = rw (eq-eqb m 0 e)
 
 pub marked-joins : Joins marked

@@ -23,7 +23,7 @@ use Rattle.control.specs.declared.control.Operands.{Operands}
 use Rattle.control.specs.declared.control.Tick.{Tick}
 use Rattle.control.specs.declared.control.BusTransfer.{BusTransfer}
 use Rattle.control.specs.declared.control.BusTransfer.the-variants.{Idle, Read, Write}
-use Rattle.tick.specs.Tick.{decodeTick, decodeTo, nextPc, haltingTick, plain, withControl, toTick, executeTick, loadTick, storeTick, endedTick, laterTick, onward, tickOf}
+use Rattle.tick.specs.Tick.{decodeTick, decodeTo, nextPc, haltingTick, isHalt, plain, withControl, toTick, executeTick, loadTick, storeTick, endedTick, laterTick, onward, tickOf}
 use Rattle.trace.specs.declared.records.TraceRecord.{TraceRecord}
 use Rattle.guard.specs.declared.stops.GuardedStop.{GuardedStop}
 use Rattle.guard.specs.declared.stops.GuardedStop.the-variants.{Halted, Breakpoint, Fault as Faulted, Budget, HiddenWord, HiddenJump}
@@ -127,7 +127,7 @@ record TickFits (t : Tick) : Type 0 where
   bus : BusFits (t .bus)
 
 decode-fits : (d : Decoded) (s : State) (c : Control) → Addresses c → TickFits (decodeTo d s c)
-decode-fits (Known o) s c a = at (eqb (executeTicks (Known o)) 0)
+decode-fits (Known o) s c a = at (isHalt o)
   where
     at : (b : Bool) → TickFits (cond b (haltingTick s c) (plain (withControl (toTick 4 c) s)))
     at true = record { control = record { pc = a .pc; mar = a .mar }; bus = tt }

@@ -3,7 +3,7 @@
 use Prim.Native.Nat.{ℕ, zero, suc, _≤_, _<_}
 use mathlib.Core.Path.{_≡_, refl, sym, ap, subst, _∙_}
 use mathlib.Core.Bool.{true}
-use mathlib.Core.List.{List}
+use mathlib.Core.List.{List, _++_}
 use borrow.Author.Tests.{leb-true, eq-eqb, ne-eqb, lt-ltb, le-ltb}
 use lib.Dec.{leb}
 use lib.ListN.{length, getD}
@@ -14,13 +14,14 @@ use Rattle.control.proofs.Lawfuls.{both}
 use Rattle.vm.specs.declared.machine.Machine.{Machine as Code}
 use Rattle.trace.specs.Trace.{liveLengths, shortTexts}
 use Rattle.vm.specs.Refusal.{partsOk}
-use Rattle.vm.specs.Calls.{viewOf, isMachine}
+use Rattle.vm.specs.Calls.{viewOf, isMachine, imageWords}
 use Rattle.vm.specs.Machine.{Machine}
 use Rattle.marks.specs.Marks.{marked}
-use Rattle.vm.specs.Guard.{GuardedEnd, guardedOf}
+use Rattle.vm.specs.Guard.{Guarded, GuardedEnd, guardedOf}
+use Rattle.guard.specs.Stops.{stopNumber}
 use Rattle.guard.specs.Input.{Input, inputRefusal}
 use Rattle.report.specs.declared.Reported.the-variants.{Refused}
-use Rattle.report.specs.Report.{noRecord, endBytes, reportOn, reportBytes}
+use Rattle.report.specs.Report.{noRecord, headRecord, startRecords, byteRecords, endRecords, endBytes, reportOn, reportBytes}
 use Rattle.report.specs.Slots.{Reportable}
 use Rattle.report.specs.Public.{reportLimit, reportRefusal}
 use Rattle.report.specs.Outcome.{Outcome, outcome, served, unlessRefused, reportOutcome, reportIn}
@@ -71,11 +72,17 @@ module _ (i : Input) (out : List ℕ) where
   unfolding reportOutcome
   answered e = rw e
 
-  -- e is how the run ended, of which the report was written
-  pub call-served : (e : GuardedEnd) → e ≡ guardedOf marked i → inputRefusal i ≡ 0 → reportLimit ≤ length out → {o : Outcome}
+  -- e is how the run ended, of which the report was written: its stop by number, and the machine with its marks
+  pub call-served : (e : GuardedEnd) → stopNumber (e .stop) ≡ stopNumber (guardedOf marked i .stop) → e .guarded ≡ guardedOf marked i .guarded → inputRefusal i ≡ 0 → reportLimit ≤ length out → {o : Outcome}
       → o ≡ served (reportOn marked i (record { stop = e .stop; executed = 0; guarded = e .guarded })) out → o ≡ reportOutcome i out
   unfolding reportBytes reportOn endBytes
-  call-served e p q h r = r ∙ ap (λ (x : GuardedEnd). served (reportOn marked i x) out) p ∙ answered (room q h)
+  call-served e p g q h r = r ∙ (λ k. served (whole (p k) (g k)) out) ∙ answered (room q h)
+    where
+      whole : ℕ → Guarded → List ℕ
+      whole n x =
+          headRecord (length (i .image)) (i .budget) (length (i .breaks))
+          ++ (startRecords marked (imageWords (i .image)) (i .marks)
+          ++ (byteRecords 3 (i .breaks) ++ endRecords marked n (x .machine) (x .marks)))
 
   -- ---- the report that a call leaves
   pub report-left : reportRefusal i (length out) ≡ 0 → reportIn (reportOutcome i out) ≡ reportBytes marked i

@@ -7,11 +7,12 @@ use mathlib.Core.Bool.{Bool, true, false, cond}
 use mathlib.Core.List.{List}
 use borrow.Author.Tests.{ltb-true, ltb-false, le-leb, lt-ltb, ne-eqb}
 use lib.Dec.{ltb}
-use lib.ListN.{length, take, drop}
+use lib.ListN.{length, take, drop, length-take}
 use lib.Seq.{length-take-le, take-all, take-add, take-take, drop-at, getD-take}
-use Rattle.encoding.specs.Bytes.{number, readNumber}
+use Rattle.encoding.specs.Bytes.{number, readNumber, written}
+use Rattle.encoding.proofs.Written.{take-over, written-fits, length-written}
 use Rattle.report.specs.Public.{reportLimit}
-use Rattle.report.specs.Program.{imageLength, marksAt, budgetAt, countAt, breaksAt, budgetIn, breakCount, badMarks, firstRefusal, bytesRefusal, bytesOutcome}
+use Rattle.report.specs.Program.{inputLength, imageLength, marksAt, budgetAt, countAt, breaksAt, budgetIn, breakCount, badMarks, firstRefusal, bytesRefusal, bytesOutcome}
 use Rattle.report.proofs.Programs.{bytes-passed, bytes-end, bytes-refused}
 
 -- ---- what lies in the first k bytes is read there
@@ -92,7 +93,7 @@ module _ (b : List ℕ) (room : ℕ) (long : 1037 ≤ length b) where
       let l = bytes-end b room e in
       omega arith
 
-pub first-decide : (b out : List ℕ) → bytesOutcome (take 1037 b) out ≡ bytesOutcome b out
+pub first-decide : (b out : List ℕ) → bytesOutcome (take inputLength b) out ≡ bytesOutcome b out
 first-decide b out = go (ltb (length b) 1037) refl
   where
     go : (t : Bool) → ltb (length b) 1037 ≡ t → bytesOutcome (take 1037 b) out ≡ bytesOutcome b out
@@ -103,3 +104,14 @@ first-decide b out = go (ltb (length b) 1037) refl
         let h : 1037 ≤ length b = ltb-false (length b) 1037 e in
         sym (bytes-refused (take 1037 b) out (sym (refusal-front b (length out) h)) (never-whole b (length out) h))
         ∙ bytes-refused b out refl (never-whole b (length out) h)
+
+-- the copy o that the code makes of them, in an array d of zeros
+module _ (b d : List ℕ) {p o : List ℕ} (size : length d ≡ inputLength) (part : p ≡ take inputLength b) (put : o ≡ written d 0 p) where
+  short : length p ≤ length d
+  short = rw (size, part, length-take) (omega arith)
+
+  pub copy-fits : length p ≤ length o
+  copy-fits = rw (put, length-written) short
+
+  pub copied : take (length p) o ≡ take inputLength b
+  copied = let h = short in rw (put, written-fits d 0 p (omega arith)) (take-over d p) ∙ part

@@ -2,11 +2,11 @@
 -- Assumes nothing.
 use Prim.Native.Nat.{ℕ, _+_, _*_, _≤_, _<_}
 use native.Mathlib.Omega.{arith}
-use mathlib.Core.Path.{_≡_, refl}
+use mathlib.Core.Path.{_≡_, refl, sym, ap, _∙_}
 use mathlib.Core.Bool.{Bool}
-use mathlib.Core.List.{List}
+use mathlib.Core.List.{List, _++_, append-assoc}
 use lib.ListN.{length, take, drop, getD, length-append, length-drop}
-use lib.Seq.{length-take-le}
+use lib.Seq.{length-take-le, drop-at}
 use Rattle.encoding.specs.Bytes.{bigEndian}
 use Rattle.encoding.proofs.Numbers.{length-bigEndian}
 use Rattle.encoding.proofs.Written.{length-each}
@@ -22,7 +22,7 @@ use Rattle.vm.specs.Guard.{guardedOf}
 use Rattle.guard.specs.Input.{Input}
 use Rattle.guard.specs.Stops.{stopNumber}
 use Rattle.trace.specs.Trace.{columnsLength}
-use Rattle.report.specs.Report.{startRecord, startRecords, byteRecord, byteRecords, traceBytes, traceRecord, noRecord, traceRecords, valueRecord, valueRecords, faultBytes, countBytes, controlBytes, endRecord, endRecords, endBytes, reportOn, reportBytes}
+use Rattle.report.specs.Report.{headRecord, startRecord, startRecords, byteRecord, byteRecords, traceBytes, traceRecord, noRecord, traceRecords, valueRecord, valueRecords, faultBytes, countBytes, controlBytes, endRecord, endRecords, endBytes, reportOn, reportBytes}
 use Rattle.report.specs.Slots.{slotBytes}
 use Rattle.report.specs.Public.{reportLimit, reportRefusal}
 use Rattle.report.proofs.Accepts.{accepted}
@@ -106,6 +106,30 @@ module _ (hid : ℕ → Bool) where
   pub length-report : (i : Input)
       → length (reportBytes hid i) ≡ reportLength (length (i .breaks)) (length (guardedOf hid i .guarded .machine .trace)) (length (guardedOf hid i .guarded .machine .touched))
   length-report i = length-with i (λ n. live-fits _ (guarded-bounded hid i .texts n))
+
+  -- its last record is that of the run's end
+  pub last-record : (i : Input) (n : ℕ) → n + 45 ≡ length (reportBytes hid i)
+      → (let e = guardedOf hid i in drop n (reportBytes hid i) ≡ endRecord hid (stopNumber (e .stop)) (e .guarded .machine .state) (e .guarded .machine .counters) (e .guarded .marks .mdr))
+  unfolding reportBytes reportOn endBytes endRecords
+  last-record i n h =
+      let e = guardedOf hid i in
+      let m = e .guarded .machine in
+      let k = e .guarded .marks in
+      let last = endRecord hid (stopNumber (e .stop)) (m .state) (m .counters) (k .mdr) in
+      let front =
+      headRecord (length (i .image)) (i .budget) (length (i .breaks))
+      ++ (startRecords hid (imageWords (i .image)) (i .marks)
+      ++ (byteRecords 3 (i .breaks)
+      ++ (traceRecords (m .trace)
+      ++ (valueRecords hid 5 16 (m .registers) (k .registers)
+      ++ (valueRecords hid 6 256 (m .memory) (k .memory) ++ byteRecords 7 (m .touched)))))) in
+      let parts : front ++ last ≡ reportBytes hid i = simp append-assoc in
+      let size : length front + 45 ≡ length (reportBytes hid i) = sym (ap (λ (x : ℕ). length front + x) (length-end hid (stopNumber (e .stop)) (m .state) (m .counters) (k .mdr))) ∙ sym (length-append front last) ∙ ap length parts in
+      ap (drop n) (sym parts) ∙ drop-at front last n (omega arith)
+
+-- none is empty
+pub report-some : (hid : ℕ → Bool) (i : Input) → 0 < length (reportBytes hid i)
+report-some hid i = rw (length-report hid i) (omega arith)
 
 -- the largest numbers reach the limit
 pub limit-reached : reportLength 256 512 256 ≡ reportLimit

@@ -10,19 +10,19 @@ use lib.Dec.{eqb, ltb, lit<}
 use lib.ListN.{length, take, drop, getD, length-drop}
 use lib.Seq.{length-take-le, getD-drop}
 use Rattle.encoding.specs.Bytes.{within, numbers, readNumber, readWords}
+use Rattle.encoding.proofs.Written.{take-over}
 use Rattle.encoding.proofs.Numbers.{length-numbers, number-below}
 use Rattle.history.proofs.Parts.{words-inside}
 use Rattle.marks.specs.Marks.{marked}
-use Rattle.guard.specs.Input.{zeroOne, inputRefusal}
+use Rattle.guard.specs.Input.{inputFrom, zeroOne, inputRefusal}
 use Rattle.report.specs.declared.Reported.the-variants.{Written, Refused}
 use Rattle.report.specs.Report.{reportBytes}
-use Rattle.report.specs.Slots.{inputFrom}
 use Rattle.report.specs.Public.{reportLimit, reportRefusal}
-use Rattle.report.specs.Outcome.{outcome, served, unlessRefused, reportOutcome}
+use Rattle.report.specs.Outcome.{Outcome, outcome, served, unlessRefused, reportOutcome, reportIn}
 use Rattle.report.specs.Program.{imageLength, marksAt, budgetAt, countAt, breaksAt, budgetIn, breakCount, inputOf, badMarks, firstRefusal, bytesRefusal, bytesOutcome}
 use Rattle.report.proofs.Accepts.{passed, met}
 use Rattle.report.proofs.Calls.{answered, refused-number}
-use Rattle.report.proofs.Lengths.{report-fits}
+use Rattle.report.proofs.Lengths.{report-fits, report-some}
 
 -- ---- the tests
 
@@ -103,15 +103,46 @@ module _ (b out : List ℕ) where
   bytes-served e = sym (answered (inputOf b) out (bytes-accepted b (length out) e)) ∙ rw e
 
   -- a length that is answered is that of a report
-  pub bytes-at-most : {n : ℕ} → bytesOutcome b out .answer ≡ Written n → n ≤ reportLimit
+  pub bytes-at-most : bytesOutcome b out .answer .length ≤ reportLimit
   unfolding bytesOutcome
-  bytes-at-most {n} h = go (bytesRefusal b (length out)) refl h
+  bytes-at-most = go (bytesRefusal b (length out)) refl
     where
-      go : (r : ℕ) → bytesRefusal b (length out) ≡ r → unlessRefused r out (served (reportBytes marked (inputOf b)) out) .answer ≡ Written n → n ≤ reportLimit
-      go zero e q =
-          let same : length (reportBytes marked (inputOf b)) ≡ n = cc in
-          rw same at (report-fits marked (inputOf b) (length out) (bytes-accepted b (length out) e) .0)
-      go (suc r) e q = let z : _≡_ {A = ℕ} 0 1 = cc in omega arith
+      go : (r : ℕ) → bytesRefusal b (length out) ≡ r → unlessRefused r out (served (reportBytes marked (inputOf b)) out) .answer .length ≤ reportLimit
+      go zero e = report-fits marked (inputOf b) (length out) (bytes-accepted b (length out) e) .0
+      go (suc r) e = omega arith
+
+  -- the number that is answered is that of the refusal
+  pub bytes-told : bytesOutcome b out .answer .refused ≡ bytesRefusal b (length out)
+  unfolding bytesOutcome
+  bytes-told = go (bytesRefusal b (length out))
+    where
+      go : (r : ℕ) → unlessRefused r out (served (reportBytes marked (inputOf b)) out) .answer .refused ≡ r
+      go zero = refl
+      go (suc r) = refl
+
+  -- what is left where nothing is refused, and where something is
+  pub bytes-left : bytesRefusal b (length out) ≡ 0 → bytesOutcome b out ≡ served (reportBytes marked (inputOf b)) out
+  unfolding bytesOutcome
+  bytes-left e = rw e
+
+  pub bytes-report : bytesRefusal b (length out) ≡ 0 → reportIn (bytesOutcome b out) ≡ reportBytes marked (inputOf b)
+  bytes-report e = ap reportIn (bytes-left e) ∙ take-over out (reportBytes marked (inputOf b))
+
+  pub bytes-kept : (bytesRefusal b (length out) ≡ 0 → ⊥) → bytesOutcome b out .buffer ≡ out
+  bytes-kept h = ap (λ (o : Outcome). o .buffer) (sym (bytes-refused refl h))
+
+  -- a length that is answered is of no refusal, and a number that is answered is no 0, since no report is empty
+  pub bytes-written : {n : ℕ} {o : List ℕ} → outcome (Written n) o ≡ bytesOutcome b out → bytesRefusal b (length out) ≡ 0
+  bytes-written h = sym bytes-told ∙ sym (ap (λ (x : Outcome). x .answer .refused) h)
+
+  pub bytes-number : {n : ℕ} {o : List ℕ} → outcome (Refused n) o ≡ bytesOutcome b out → (n ≡ bytesRefusal b (length out)) × (n ≡ 0 → ⊥)
+  bytes-number {n} h =
+      let e : n ≡ bytesRefusal b (length out) = ap (λ (x : Outcome). x .answer .refused) h ∙ bytes-told in (
+        e,
+        λ z.
+            let l : 0 ≡ length (reportBytes marked (inputOf b)) = ap (λ (x : Outcome). x .answer .length) (h ∙ bytes-left (sym e ∙ z)) in
+            omega (arith, report-some marked (inputOf b)),
+      )
 
 -- ---- words of 16 bits
 

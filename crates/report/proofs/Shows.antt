@@ -5,7 +5,6 @@ use native.Mathlib.Omega.{arith}
 use mathlib.Core.Path.{_≡_, refl, sym, ap, ap₂, _∙_}
 use mathlib.Core.Bool.{Bool, true, false, cond}
 use mathlib.Core.List.{List, [], _∷_, _++_}
-use borrow.Author.Tests.{eq-eqb, ne-eqb}
 use lib.ListN.{length, replicate, length-append}
 use Rattle.encoding.specs.Bytes.{over, bigEndian, written}
 use Rattle.encoding.proofs.Written.{written-fits}
@@ -105,15 +104,15 @@ module _ (hid : ℕ → Bool) where
 
 module _ (d : List ℕ) (at : ℕ) {o : List ℕ} where
   -- a text of 32 bytes, by the mark
-  pub text-open : (m w : ℕ) → at + 32 ≤ length d → m ≡ 0 → o ≡ written d at (padded 32 (disassembleText w)) → o ≡ over d at (shownText marked m w)
+  pub text-open : (m w : ℕ) → at + 32 ≤ length d → marked m ≡ false → o ≡ written d at (padded 32 (disassembleText w)) → o ≡ over d at (shownText marked m w)
   unfolding shownText
   text-open m w h e p =
       let l : length (padded 32 (disassembleText w)) ≡ 32 = disassembly-padded w in
-      p ∙ written-fits d at (padded 32 (disassembleText w)) (omega arith) ∙ rw (eq-eqb m 0 e)
+      p ∙ written-fits d at (padded 32 (disassembleText w)) (omega arith) ∙ sym (ap (λ (b : Bool). over d at (padded 32 (cond b [] (disassembleText w)))) e)
 
-  pub text-marked : (m w : ℕ) → at + 32 ≤ length d → (m ≡ 0 → ⊥) → o ≡ written d at (replicate 32 0) → o ≡ over d at (shownText marked m w)
+  pub text-marked : (m w : ℕ) → at + 32 ≤ length d → marked m ≡ true → o ≡ written d at (replicate 32 0) → o ≡ over d at (shownText marked m w)
   unfolding shownText padded
-  text-marked m w h n p = p ∙ written-fits d at (replicate 32 0) h ∙ rw (ne-eqb m 0 n)
+  text-marked m w h e p = p ∙ written-fits d at (replicate 32 0) h ∙ sym (ap (λ (b : Bool). over d at (padded 32 (cond b [] (disassembleText w)))) e)
 
   -- five bytes, the value's among them
   pub value-put : (kind i m v : ℕ) {s : ℕ} → at + 5 ≤ length d → s ≡ shown marked m v → o ≡ written d at (kind ∷ i ∷ m ∷ s / 256 % 256 ∷ s % 256 ∷ []) → o ≡ over d at (valueRecord marked kind i m v)

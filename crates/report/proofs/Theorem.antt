@@ -1,4 +1,4 @@
--- Demand 3 (01, section 6): two accepted guarded runs have equal reports exactly when image length, budget, breakpoint list, marks and each unmarked starting word are the same. So a report tells a researcher nothing of what is marked, and all that is public of its input.
+-- Demand 3, as `specs/Demand.antt` states it: of reports, of the calls, and of the calls on the report program's input; and that there are inputs of which it speaks.
 -- Assumes nothing.
 use mathlib.Core.Path.{_≡_, refl, sym, ap, _∙_}
 use mathlib.Core.Logic.{_↔_}
@@ -15,13 +15,13 @@ use Rattle.report.proofs.Levels.{Twin, Level}
 use Rattle.report.proofs.Runs.{run-same}
 use Rattle.report.specs.Report.{endBytes, reportOn, reportBytes}
 use Rattle.report.specs.Public.{reportLimit, reportRefusal, SamePublic}
-use Rattle.report.specs.Outcome.{reportOutcome, reportIn}
 use Rattle.report.specs.Program.{inputOf, firstRefusal, bytesRefusal}
-use Rattle.report.proofs.Accepts.{Accepted, accepted, length-words, words-below, marked-joins}
+use Rattle.report.specs.Demand.{Words, DemandThree, DemandThreeCalls, DemandThreeBytes}
+use Rattle.report.proofs.Accepts.{Accepted, accepted, length-words, words-below, marked-zero, zero-marked, marked-joins}
 use Rattle.report.proofs.Shows.{shown-seen}
 use Rattle.report.proofs.Fronts.{head-cut, starts-cut, breaks-cut}
 use Rattle.report.proofs.Calls.{report-left}
-use Rattle.report.proofs.Programs.{bytes-accepted, image-below}
+use Rattle.report.proofs.Programs.{bytes-accepted, bytes-report, image-below}
 use Rattle.report.proofs.Ends.{ends-same, starts-same, start-level, start-tick}
 
 -- there are accepted inputs: HALT, and any word behind it, which is marked
@@ -31,10 +31,6 @@ withSecret w = record { image = 57344 ∷ w ∷ []; marks = 0 ∷ 1 ∷ replicat
 pub secret-accepted : (w : ℕ) → reportRefusal (withSecret w) reportLimit ≡ 0
 unfolding reportRefusal inputRefusal zeroOne
 secret-accepted w = refl
-
--- the image is an array of 16-bit words, as the call's type says
-abbrev pub Words : Input → Type 0
-Words i = (a : ℕ) → getD (i .image) a 0 < 65536
 
 -- equal reports come from the same public input
 report→same : (i j : Input) → Accepted i → Accepted j → Words i → Words j → reportBytes marked i ≡ reportBytes marked j → SamePublic i j
@@ -47,7 +43,7 @@ report→same i j A B v w e =
       budget = front .0 .1;
       breaks = breaks-cut (i .breaks) (j .breaks) _ _ (front .0 .2) (rest .1);
       marks = ext-getD 0 (i .marks) (j .marks) (A .full ∙ sym (B .full)) (λ a l. rest .0 a (rw (A .full) at l) .0);
-      words = λ a l p. shown-seen marked (getD (i .marks) a 0) (getD (imageWords (i .image)) a 0) (getD (imageWords (j .image)) a 0) p
+      words = λ a l p. shown-seen marked (getD (i .marks) a 0) (getD (imageWords (i .image)) a 0) (getD (imageWords (j .image)) a 0) (zero-marked (getD (i .marks) a 0) p)
           (rest .0 a l .1 ∙ ap (λ (m : ℕ). shown marked m (getD (imageWords (j .image)) a 0)) (sym (rest .0 a l .0)));
     }
 
@@ -59,7 +55,7 @@ same→report i j A S =
     ∙ (λ x. reportBytes marked (record { image = j .image; marks = S .marks x; budget = S .budget x; breaks = S .breaks x }))
   where
     twin : (a : ℕ) → a < 256 → Twin marked (getD (i .marks) a 0) (getD (imageWords (i .image)) a 0) (getD (imageWords (j .image)) a 0)
-    twin a l = record { seen = S .words a l }
+    twin a l = record { seen = λ p. S .words a l (marked-zero (getD (i .marks) a 0) p) }
 
     level : Level marked (guardedStart (i .image) (i .marks)) (guardedStart (j .image) (i .marks))
     level = start-level marked (i .image) (j .image) (i .marks) (length-words (i .image) ∙ sym (A .full)) (length-words (j .image) ∙ sym (A .full)) (λ a l. twin a (rw (A .full) at l))
@@ -68,31 +64,24 @@ same→report i j A S =
         ≡ endBytes marked (guardedRun marked (i .breaks) 0 (i .budget) (guardedStart (j .image) (i .marks)))
     outcome = ends-same marked _ _ (run-same marked marked-joins (i .breaks) 0 (i .budget) (guardedStart (i .image) (i .marks)) (guardedStart (j .image) (i .marks)) level (start-tick marked (i .image) (i .marks)))
 
--- the inputs, and the lengths of the buffers that the reports are written to
-pub demand-three : (i j : Input) (m n : ℕ) → reportRefusal i m ≡ 0 → reportRefusal j n ≡ 0 → Words i → Words j
-    → (reportBytes marked i ≡ reportBytes marked j) ↔ SamePublic i j
+pub demand-three : DemandThree
 demand-three i j m n p q v w =
     let A = accepted i m p .0 in
     (report→same i j A (accepted j n q .0) v w, same→report i j A)
 
--- the same of the calls: what they leave in the first bytes of their buffers, as many as the returned lengths
-pub demand-three-calls : (i j : Input) (b d : List ℕ) → reportRefusal i (length b) ≡ 0 → reportRefusal j (length d) ≡ 0 → Words i → Words j
-    → (reportIn (reportOutcome i b) ≡ reportIn (reportOutcome j d)) ↔ SamePublic i j
-demand-three-calls i j b d p q v w =
-    let t = demand-three i j (length b) (length d) p q v w in
-    (λ e. t .0 (sym (report-left i b p) ∙ e ∙ report-left j d q), λ s. report-left i b p ∙ t .1 s ∙ sym (report-left j d q))
+-- reports as the calls leave them
+left : {r s r' s' : List ℕ} {S : Type 0} → r' ≡ r → s' ≡ s → (r ≡ s) ↔ S → (r' ≡ s') ↔ S
+left p q t = (λ e. t .0 (sym p ∙ e ∙ q), λ x. p ∙ t .1 x ∙ sym q)
+
+pub demand-three-calls : DemandThreeCalls
+demand-three-calls i j b d p q v w = left (report-left i b p) (report-left j d q) (demand-three i j (length b) (length d) p q v w)
 
 -- ---- the report program's inputs
 
--- the input is an array of bytes, as the call's type says
-abbrev pub AllBytes : List ℕ → Type 0
-AllBytes b = (i : ℕ) → getD b i 0 < 256
-
--- the same of two of them that are not refused
-pub demand-three-bytes : (b d : List ℕ) (m n : ℕ) → bytesRefusal b m ≡ 0 → bytesRefusal d n ≡ 0 → AllBytes b → AllBytes d
-    → (reportBytes marked (inputOf b) ≡ reportBytes marked (inputOf d)) ↔ SamePublic (inputOf b) (inputOf d)
-demand-three-bytes b d m n p q v w =
-    demand-three (inputOf b) (inputOf d) m n (bytes-accepted b m p) (bytes-accepted d n q) (image-below b v) (image-below d w)
+pub demand-three-bytes : DemandThreeBytes
+demand-three-bytes x y b d p q v w =
+    left (bytes-report x b p) (bytes-report y d q)
+    (demand-three (inputOf x) (inputOf y) (length b) (length d) (bytes-accepted x (length b) p) (bytes-accepted y (length d) q) (image-below x v) (image-below y w))
 
 -- some are not: the bytes of `withSecret`, whose hidden word has the bytes h and l
 abbrev pub secretBytes : ℕ → ℕ → List ℕ

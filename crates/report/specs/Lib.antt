@@ -3,3 +3,4 @@ pub mod Slots
 pub mod Public
 pub mod Outcome
 pub mod Program
+pub mod Demand

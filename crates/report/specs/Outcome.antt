@@ -1,7 +1,7 @@
 -- What the call for a report answers, and the buffer that it leaves (01, sections 1 and 6).
 -- Assumes nothing.
 use Prim.Native.Nat.{ℕ, zero, suc}
-use mathlib.Core.List.{List, []}
+use mathlib.Core.List.{List}
 use lib.ListN.{length, take}
 use Rattle.encoding.specs.Bytes.{over}
 use Rattle.marks.specs.Marks.{marked}
@@ -11,12 +11,21 @@ use Rattle.report.specs.declared.Reported.the-variants.{Written, Refused
 use Rattle.report.specs.Report.{reportBytes}
 use Rattle.report.specs.Public.{reportRefusal}
 
+-- what the call answers by 01's number (its last paragraph): that of the refusal, 0 for none, and the report's length, 0 where refused
+pub record Told : Type 0 where
+  pub refused : ℕ
+  pub length : ℕ
+
+abbrev pub told : Reported → Told
+told (Written n) = record { refused = 0; length = n }
+told (Refused n) = record { refused = n; length = 0 }
+
 pub record Outcome : Type 0 where
-  pub answer : Reported
+  pub answer : Told
   pub buffer : List ℕ
 
 abbrev pub outcome : Reported → List ℕ → Outcome
-outcome a b = record { answer = a; buffer = b }
+outcome a b = record { answer = told a; buffer = b }
 
 -- a length, and the buffer
 abbrev pub written : ℕ → List ℕ → Outcome
@@ -34,11 +43,6 @@ unlessRefused (suc n) out o = outcome (Refused (suc n)) out
 unfoldable pub reportOutcome : Input → List ℕ → Outcome
 reportOutcome i out = unlessRefused (reportRefusal i (length out)) out (served (reportBytes marked i) out)
 
--- the buffer's first bytes, as many as the returned length
-abbrev pub firstBytes : Reported → List ℕ → List ℕ
-firstBytes (Written n) b = take n b
-firstBytes (Refused n) b = []
-
--- the report of a call
+-- the report of a call: the buffer's first bytes, as many as the returned length
 abbrev pub reportIn : Outcome → List ℕ
-reportIn o = firstBytes (o .answer) (o .buffer)
+reportIn o = take (o .answer .length) (o .buffer)

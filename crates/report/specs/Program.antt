@@ -27,6 +27,10 @@ countAt n = budgetAt n + 8
 abbrev pub breaksAt : ℕ → ℕ
 breaksAt n = countAt n + 2
 
+-- so many bytes decide every answer (`first-decide`): the most that are served, and one more
+abbrev pub inputLength : ℕ
+inputLength = breaksAt memoryWords + breakLimit + 1
+
 -- the three numbers: one that is not wholly there reads as 0, which no test below refuses, so that it is left to 6
 abbrev pub imageLength : List ℕ → ℕ
 imageLength b = readNumber b 0 2

@@ -11,7 +11,7 @@ use Rattle.disasm.specs.Disassembly.{disassembleText}
 use Rattle.control.specs.declared.control.Fault.{Fault}
 use Rattle.control.specs.declared.control.State.{State}
 use Rattle.control.specs.declared.counters.Counters.{Counters}
-use Rattle.history.specs.Record.{codeOf}
+use Rattle.control.specs.Codes.{faultCode}
 use Rattle.trace.specs.declared.records.TraceRecord.{TraceRecord}
 use Rattle.vm.specs.Machine.{Machine}
 use Rattle.vm.specs.Calls.{imageWords}
@@ -71,7 +71,7 @@ valueRecords hid kind n values marks = eachFrom (λ i. valueRecord hid kind i (g
 
 -- a fault: kind, word, address, all zero for none
 unfoldable pub faultBytes : Fault → List ℕ
-faultBytes f = codeOf f .kind ∷ (bigEndian 2 (codeOf f .word) ++ (codeOf f .address ∷ []))
+faultBytes f = faultCode f .kind ∷ (bigEndian 2 (faultCode f .word) ++ (faultCode f .address ∷ []))
 
 -- the four counts: instructions, micro operations, bus reads, bus writes
 unfoldable pub countBytes : Counters → List ℕ

@@ -1,6 +1,6 @@
 // The call for a report.
 ghost use mathlib.Core.Path.{_≡_};
-ghost use Rattle.report.specs.Slots.{inputFrom};
+ghost use Rattle.guard.specs.Input.{inputFrom};
 ghost use Rattle.report.specs.Outcome.{outcome, reportOutcome};
 use crate::REPORT_LENGTH;
 use crate::Reported;
@@ -13,13 +13,14 @@ use vm::guarded_run;
 pub fn report(
     image: &[u16],
     marks: &[u8],
-    budget: u64,
+    budget: Begun,
     breakpoints: &[u8],
     out: &mut [u8],
 ) -> Reported
-    ensures { λ r. ⌜ outcome r (now (out .exit)) ≡ reportOutcome (inputFrom (now (image .entry)) (now (marks .entry)) budget (now (breakpoints .entry))) (now (out .entry)) ⌝ }
+    ensures { λ r. ⌜ outcome r (now (out .exit))
+        ≡ reportOutcome (inputFrom (now (image .entry)) (now (marks .entry)) (budget .0) (now (breakpoints .entry))) (now (out .entry)) ⌝ }
 {
-    let run = guarded_run(image, marks, Begun(budget), breakpoints);
+    let run = guarded_run(image, marks, budget, breakpoints);
     let refused = run.refused;
     if refused != 0 {
         return Reported::Refused(refused);

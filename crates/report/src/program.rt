@@ -3,17 +3,21 @@
 // breakpoints 1 each.
 ghost use mathlib.Core.Path.{_≡_};
 ghost use Prim.Native.Nat.{_+_};
+ghost use lib.ListN.{take};
 ghost use Rattle.report.specs.Outcome.{outcome};
-ghost use Rattle.report.specs.Program.{badMarks, firstRefusal, bytesOutcome};
+ghost use Rattle.report.specs.Program.{inputLength, badMarks, firstRefusal, bytesOutcome};
+use crate::INPUT_LENGTH;
 use crate::REPORT_LENGTH;
 use crate::Reported;
 use crate::call::report;
 use encoding::get_number;
 use encoding::get_words;
+use encoding::put_bytes;
 use guard::BREAK_LIMIT;
 use guard::BUDGET_LIMIT;
 use guard::zero_one;
 use isa::MEMORY_WORDS;
+use vm::Begun;
 
 // The 256 marks, from index `at` up to `end`, are wholly there, and one is not 0 or 1.
 fn bad_marks(input: &[u8], at: usize, end: usize) -> bool
@@ -29,8 +33,15 @@ fn bad_marks(input: &[u8], at: usize, end: usize) -> bool
 
 // The first test that refuses, 0 for none. The tests go by their numbers, whatever the order of the
 // parts in the input.
-fn first_refusal(words: usize, bad: bool, count: usize, budget: u64, room: usize, whole: bool) -> u8
-    ensures { λ r. ⌜ r ≡ firstRefusal words bad count budget room whole ⌝ }
+fn first_refusal(
+    words: usize,
+    bad: bool,
+    count: usize,
+    budget: Begun,
+    room: usize,
+    whole: bool,
+) -> u8
+    ensures { λ r. ⌜ r ≡ firstRefusal words bad count (budget .0) room whole ⌝ }
 {
     if MEMORY_WORDS < words {
         return 1;
@@ -41,7 +52,7 @@ fn first_refusal(words: usize, bad: bool, count: usize, budget: u64, room: usize
     if BREAK_LIMIT < count {
         return 3;
     }
-    if BUDGET_LIMIT < budget {
+    if BUDGET_LIMIT < budget.0 {
         return 4;
     }
     if room < REPORT_LENGTH {
@@ -52,7 +63,7 @@ fn first_refusal(words: usize, bad: bool, count: usize, budget: u64, room: usize
 
 // The report of the input that the bytes are. A number that is not wholly there reads as 0, which no
 // test refuses but the last: so 1 to 4 are about what is there, and what is missing is left to 6.
-pub fn report_bytes(input: &[u8], out: &mut [u8]) -> Reported
+fn report_parts(input: &[u8], out: &mut [u8]) -> Reported
     ensures { λ r. ⌜ outcome r (now (out .exit)) ≡ bytesOutcome (now (input .entry)) (now (out .entry)) ⌝ }
 {
     let n = get_number(input, 0, 2) as usize;
@@ -62,7 +73,7 @@ pub fn report_bytes(input: &[u8], out: &mut [u8]) -> Reported
     let breaks_at = count_at + 2;
     let bad = bad_marks(input, marks_at, budget_at);
     let count = get_number(input, count_at, 2) as usize;
-    let budget = get_number(input, budget_at, 8);
+    let budget = Begun(get_number(input, budget_at, 8));
     let whole = input.len() == breaks_at + count;
     let refused = first_refusal(n, bad, count, budget, out.len(), whole);
     if refused != 0 {
@@ -77,4 +88,26 @@ pub fn report_bytes(input: &[u8], out: &mut [u8]) -> Reported
         &input[breaks_at..],
         out,
     )
+}
+
+// The bytes of an input that decide.
+fn deciding(input: &[u8]) -> &[u8]
+    ensures { λ r. ⌜ now r ≡ take inputLength (now (input .entry)) ⌝ }
+{
+    if INPUT_LENGTH < input.len() {
+        return &input[0..INPUT_LENGTH];
+    }
+    input
+}
+
+// The same, of a copy that is made before anything is written: a caller in C may hand in one buffer as both,
+// and the report would be written over the marks that say what it hides.
+pub fn report_bytes(input: &[u8], out: &mut [u8]) -> Reported
+    ensures { λ r. ⌜ outcome r (now (out .exit)) ≡ bytesOutcome (now (input .entry)) (now (out .entry)) ⌝ }
+{
+    let part = deciding(input);
+    let n = part.len();
+    let mut copy = [0u8; INPUT_LENGTH];
+    put_bytes(&mut copy, 0, part);
+    report_parts(&copy[..n], out)
 }

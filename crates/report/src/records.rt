@@ -12,16 +12,18 @@ use control::State;
 use disasm::disassemble_into;
 use encoding::put_bytes;
 use encoding::put_number;
+use marks::hides;
 use marks::shown_value;
+use vm::Begun;
 
 // Kind 01, at byte 0: image length, budget, breakpoint count.
-pub(crate) fn put_head(out: &mut [u8], len: usize, budget: u64, count: usize)
+pub(crate) fn put_head(out: &mut [u8], len: usize, budget: Begun, count: usize)
     requires { ⌜ 13 ≤ length (now out) ⌝ }
-    ensures { λ _. ⌜ now (out .exit) ≡ over (now (out .entry)) 0 (headRecord len budget count) ⌝ }
+    ensures { λ _. ⌜ now (out .exit) ≡ over (now (out .entry)) 0 (headRecord len (budget .0) count) ⌝ }
 {
     put_number(out, 0, 1, 1);
     put_number(out, 1, 2, len as u64);
-    put_number(out, 3, 8, budget);
+    put_number(out, 3, 8, budget.0);
     put_number(out, 11, 2, count as u64);
 }
 
@@ -30,7 +32,8 @@ fn put_text(out: &mut [u8], at: usize, mark: u8, word: u16)
     requires { ⌜ at + 32 ≤ length (now out) ⌝ }
     ensures { λ _. ⌜ now (out .exit) ≡ over (now (out .entry)) at (shownText marked mark word) ⌝ }
 {
-    if mark == 0 {
+    let hidden = hides(mark);
+    if !hidden {
         disassemble_into(out, at, word);
         return;
     }

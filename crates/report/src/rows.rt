@@ -85,7 +85,8 @@ pub(crate) fn put_trace(
 // Kinds 05 and 06: a record for each value, with its mark.
 pub(crate) fn put_values(out: &mut [u8], at: usize, kind: u8, values: &[u16], marks: &[u8])
     requires { ⌜ (at + 5 * length (now values) ≤ length (now out)) × (length (now marks) ≡ length (now values)) × (length (now values) ≤ 256) ⌝ }
-    ensures { λ _. ⌜ now (out .exit) ≡ over (now (out .entry)) at (valueRecords marked kind (length (now (values .entry))) (now (values .entry)) (now (marks .entry))) ⌝ }
+    ensures { λ _. ⌜ now (out .exit)
+        ≡ over (now (out .entry)) at (valueRecords marked kind (length (now (values .entry))) (now (values .entry)) (now (marks .entry))) ⌝ }
 {
     let mut i = 0;
     while i < values.len() {

@@ -4,11 +4,11 @@ ghost use mathlib.Core.List.{_++_};
 ghost use Prim.Native.Nat.{_+_, _*_, _≤_};
 ghost use lib.ListN.{length};
 ghost use Rattle.encoding.specs.Bytes.{over};
-ghost use Rattle.vm.specs.Calls.{viewOf, imageWords};
-ghost use Rattle.marks.specs.Marks.{marked};
-ghost use Rattle.report.specs.Report.{headRecord, startRecords, byteRecords, valueRecords, endRecord, endRecords, reportOn};
-ghost use Rattle.report.specs.Slots.{Reportable, inputFrom, endFrom};
-ghost use Rattle.report.specs.Public.{reportLimit};
+ghost use Rattle.vm.specs.Calls.{viewOf};
+ghost use Rattle.marks.specs.Marks.{marked, marksOf};
+ghost use Rattle.report.specs.Report.{byteRecords, valueRecords, endRecord, endRecords, reportOn};
+ghost use Rattle.guard.specs.Input.{inputFrom};
+ghost use Rattle.report.specs.Slots.{Reportable, Writable, inputRecords, endFrom};
 ghost use Rattle.report.specs.Outcome.{written, served};
 use crate::records::put_end;
 use crate::records::put_head;
@@ -19,12 +19,15 @@ use crate::rows::put_values;
 use control::Counters;
 use control::State;
 use guard::GuardedStop;
+use vm::Begun;
 use vm::Machine;
 
 // Kinds 01 to 03, at byte 0.
-fn put_input(out: &mut [u8], image: &[u16], marks: &[u8], budget: u64, breakpoints: &[u8])
+fn put_input(out: &mut [u8], image: &[u16], marks: &[u8], budget: Begun, breakpoints: &[u8])
     requires { ⌜ (9485 + 2 * length (now breakpoints) ≤ length (now out)) × (length (now marks) ≡ 256) ⌝ }
-    ensures { λ _. ⌜ now (out .exit) ≡ over (now (out .entry)) 0 (headRecord (length (now (image .entry))) budget (length (now (breakpoints .entry))) ++ (startRecords marked (imageWords (now (image .entry))) (now (marks .entry)) ++ byteRecords 3 (now (breakpoints .entry)))) ⌝ }
+    ensures { λ _. ⌜ now (out .exit)
+        ≡ over (now (out .entry)) 0
+        (inputRecords (inputFrom (now (image .entry)) (now (marks .entry)) (budget .0) (now (breakpoints .entry)))) ⌝ }
 {
     put_head(out, image.len(), budget, breakpoints.len());
     put_starts(out, image, marks);
@@ -40,8 +43,13 @@ fn put_cells(
     memory: &[u16],
     memory_marks: &[u8],
 )
-    requires { ⌜ (at + 1360 ≤ length (now out)) × (length (now registers) ≡ 16) × (length (now «register_marks») ≡ 16) × (length (now memory) ≡ 256) × (length (now «memory_marks») ≡ 256) ⌝ }
-    ensures { λ _. ⌜ now (out .exit) ≡ over (now (out .entry)) at (valueRecords marked 5 16 (now (registers .entry)) (now («register_marks» .entry)) ++ valueRecords marked 6 256 (now (memory .entry)) (now («memory_marks» .entry))) ⌝ }
+    requires { ⌜ (at + 1360 ≤ length (now out))
+        × (length (now registers) ≡ 16) × (length (now «register_marks») ≡ 16)
+        × (length (now memory) ≡ 256) × (length (now «memory_marks») ≡ 256) ⌝ }
+    ensures { λ _. ⌜ now (out .exit)
+        ≡ over (now (out .entry)) at
+        (valueRecords marked 5 16 (now (registers .entry)) (now («register_marks» .entry))
+        ++ valueRecords marked 6 256 (now (memory .entry)) (now («memory_marks» .entry))) ⌝ }
 {
     put_values(out, at, 5, registers, register_marks);
     put_values(out, at + 80, 6, memory, memory_marks);
@@ -74,8 +82,12 @@ fn put_run(
     memory_marks: &[u8],
     mark: u8,
 ) -> usize
-    requires { ⌜ (at + (43 * machine .«trace_len» + (1360 + (2 * machine .«touched_len» + 45))) ≤ length (now out)) × (length (now «register_marks») ≡ 16) × (length (now «memory_marks») ≡ 256) × Reportable machine ⌝ }
-    ensures { λ r. ⌜ (r ≡ at + 43 * machine .«trace_len» + 1360 + 2 * machine .«touched_len» + 45) × (now (out .exit) ≡ over (now (out .entry)) at (endRecords marked stop (viewOf machine) (record { memory = now («memory_marks» .entry); registers = now («register_marks» .entry); mdr = mark }))) ⌝ }
+    requires { ⌜ (at + (43 * machine .«trace_len» + (1360 + (2 * machine .«touched_len» + 45))) ≤ length (now out))
+        × (length (now «register_marks») ≡ 16) × (length (now «memory_marks») ≡ 256) × Reportable machine ⌝ }
+    ensures { λ r. ⌜ (r ≡ at + 43 * machine .«trace_len» + 1360 + 2 * machine .«touched_len» + 45)
+        × (now (out .exit)
+        ≡ over (now (out .entry)) at
+        (endRecords marked stop (viewOf machine) (marksOf (now («memory_marks» .entry)) (now («register_marks» .entry)) mark))) ⌝ }
 {
     let start = machine.trace_start;
     let traced = machine.trace_len;
@@ -107,7 +119,7 @@ pub(crate) fn write_report(
     out: &mut [u8],
     image: &[u16],
     marks: &[u8],
-    budget: u64,
+    budget: Begun,
     breakpoints: &[u8],
     stop: GuardedStop,
     machine: Machine,
@@ -115,8 +127,13 @@ pub(crate) fn write_report(
     memory_marks: &[u8],
     mark: u8,
 ) -> usize
-    requires { ⌜ (reportLimit ≤ length (now out)) × (length (now marks) ≡ 256) × (length (now breakpoints) ≤ 256) × (length (now «register_marks») ≡ 16) × (length (now «memory_marks») ≡ 256) × Reportable machine ⌝ }
-    ensures { λ r. ⌜ written r (now (out .exit)) ≡ served (reportOn marked (inputFrom (now (image .entry)) (now (marks .entry)) budget (now (breakpoints .entry))) (endFrom stop machine (now («register_marks» .entry)) (now («memory_marks» .entry)) mark)) (now (out .entry)) ⌝ }
+    requires { ⌜ Writable (now out) (now marks) (now breakpoints) (now «register_marks») (now «memory_marks») machine ⌝ }
+    ensures { λ r. ⌜ written r (now (out .exit))
+        ≡ served
+        (reportOn marked
+        (inputFrom (now (image .entry)) (now (marks .entry)) (budget .0) (now (breakpoints .entry)))
+        (endFrom stop machine (now («register_marks» .entry)) (now («memory_marks» .entry)) mark))
+        (now (out .entry)) ⌝ }
 {
     let number = stop.number();
     put_input(out, image, marks, budget, breakpoints);

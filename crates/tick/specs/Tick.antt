@@ -2,9 +2,10 @@
 -- Assumes nothing.
 use Prim.Native.Nat.{ℕ, zero, suc, _+_, _-_, _*_, _/_, _%_, _^_}
 use Prim.Native.String.{String}
-use mathlib.Core.Bool.{true, false, cond}
+use mathlib.Core.Bool.{Bool, true, false, cond}
 use lib.Bits.{bitAnd, bitOr, bitXor}
 use lib.Dec.{eqb, leb, ltb}
+use Rattle.isa.specs.declared.opcode.Opcode.{Opcode}
 use Rattle.isa.specs.declared.opcode.Opcode.the-variants.{LoadImmediate, LoadRegister, LoadMemory, StoreMemory, Add, Negate, ShiftRight, ShiftLeft, And, Or, Xor, Jump, Halt}
 use Rattle.isa.specs.declared.opcode.Decoded.{Decoded}
 use Rattle.isa.specs.declared.opcode.Decoded.the-variants.{Known, Unknown}
@@ -97,8 +98,23 @@ haltingTick s c = record { state = withControl (stopped c) s; bus = Idle; write 
 abbrev pub toTick : ℕ → Control → Control
 toTick t c = moved (c .pc) (c .ir) (c .mar) (c .mdr) (c .«instruction_address») t c
 
+abbrev pub isHalt : Opcode → Bool
+isHalt LoadImmediate = false
+isHalt LoadRegister = false
+isHalt LoadMemory = false
+isHalt StoreMemory = false
+isHalt Add = false
+isHalt Negate = false
+isHalt ShiftRight = false
+isHalt ShiftLeft = false
+isHalt And = false
+isHalt Or = false
+isHalt Xor = false
+isHalt Jump = false
+isHalt Halt = true
+
 abbrev pub decodeTo : Decoded → State → Control → Tick
-decodeTo (Known o) s c = cond (eqb (executeTicks (Known o)) 0) (haltingTick s c) (plain (withControl (toTick 4 c) s))
+decodeTo (Known o) s c = cond (isHalt o) (haltingTick s c) (plain (withControl (toTick 4 c) s))
 decodeTo Unknown s c = faultedTick s c
 
 abbrev pub decodeAs : Decoded → State → Tick

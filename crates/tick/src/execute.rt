@@ -1,7 +1,10 @@
 // One tick: four that fetch, then those of the opcode.
 ghost use mathlib.Core.Path.{_≡_};
 ghost use Rattle.isa.specs.Word.{decodeWord};
-ghost use Rattle.tick.specs.Tick.{withControl, plain, writing, fetchAddress, readWord, fetchInstruction, faultedTick, haltingTick, decodeTick, fetchTick, toMarTick, loadTick, toMdrTick, writeWord, storeTick, jumpTick, aluTick, right16, left16, addTick, negateTick, shiftRightTick, shiftLeftTick, andTick, orTick, xorTick, loadImmediateTick, loadRegisterTick, executeTick, onward, tickOf};
+ghost use Rattle.tick.specs.Tick.{withControl, plain, writing, fetchAddress, readWord, fetchInstruction, faultedTick, haltingTick, isHalt};
+ghost use Rattle.tick.specs.Tick.{decodeTick, fetchTick, toMarTick, loadTick, toMdrTick, writeWord, storeTick, jumpTick, aluTick, right16};
+ghost use Rattle.tick.specs.Tick.{left16, addTick, negateTick, shiftRightTick, shiftLeftTick, andTick, orTick, xorTick, loadImmediateTick};
+ghost use Rattle.tick.specs.Tick.{loadRegisterTick, executeTick, onward, tickOf};
 use control::AluOperation;
 use control::AluRecord;
 use control::BusTransfer;
@@ -15,6 +18,8 @@ use control::WordOption;
 use isa::Decoded;
 use isa::Instruction;
 use isa::Opcode;
+use isa::WORD_BITS;
+use plan::FETCH_TICKS;
 use plan::execute_tick_count;
 
 fn with_control(s: State, control: Control) -> State
@@ -142,6 +147,26 @@ fn halting(s: State, from: Control) -> Tick
     }
 }
 
+fn is_halt(opcode: Opcode) -> bool
+    ensures { λ r. ⌜ r ≡ isHalt opcode ⌝ }
+{
+    match opcode {
+        Opcode::LoadImmediate => false,
+        Opcode::LoadRegister => false,
+        Opcode::LoadMemory => false,
+        Opcode::StoreMemory => false,
+        Opcode::Add => false,
+        Opcode::Negate => false,
+        Opcode::ShiftRight => false,
+        Opcode::ShiftLeft => false,
+        Opcode::And => false,
+        Opcode::Or => false,
+        Opcode::Xor => false,
+        Opcode::Jump => false,
+        Opcode::Halt => true,
+    }
+}
+
 // PC + 1 to PC, 255 going to 0, and what the word in IR is.
 fn decode_tick(s: State) -> Tick
     ensures { λ r. ⌜ r ≡ decodeTick s ⌝ }
@@ -152,13 +177,13 @@ fn decode_tick(s: State) -> Tick
     let decoded = Instruction::from_word(c.ir).opcode();
     let n = execute_tick_count(decoded);
     c.execute_ticks = n;
-    let Decoded::Known(_) = decoded else {
+    let Decoded::Known(opcode) = decoded else {
         return faulted(s, c);
     };
-    if n == 0 {
+    if is_halt(opcode) {
         return halting(s, c);
     }
-    c.tick = 4;
+    c.tick = FETCH_TICKS;
     quiet(with_control(s, c))
 }
 
@@ -290,13 +315,21 @@ fn alu_tick(
 pub fn shifted_right(value: u16, count: u16) -> u16
     ensures { λ r. ⌜ r ≡ right16 count value ⌝ }
 {
-    if count < 16 { value >> count } else { 0 }
+    if (count as u32) < WORD_BITS {
+        value >> count
+    } else {
+        0
+    }
 }
 
 pub fn shifted_left(value: u16, count: u16) -> u16
     ensures { λ r. ⌜ r ≡ left16 count value ⌝ }
 {
-    if count < 16 { value << count } else { 0 }
+    if (count as u32) < WORD_BITS {
+        value << count
+    } else {
+        0
+    }
 }
 
 // ADD wraps at 65,536.
@@ -450,9 +483,9 @@ pub fn tick_of(s: State, o: Operands) -> Tick
     ensures { λ r. ⌜ r ≡ tickOf (s .control .tick) s o ⌝ }
 {
     let tick = s.control.tick;
-    if tick < 4 {
+    if tick < FETCH_TICKS {
         return fetch_tick(s, o.cell);
     }
-    let n = tick - 4;
+    let n = tick - FETCH_TICKS;
     next_tick(execute_tick(s, n, o), n)
 }

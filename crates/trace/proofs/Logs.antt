@@ -7,7 +7,7 @@ use mathlib.Core.Bool.{Bool}
 use Rattle.isa.specs.Text.{text}
 use Rattle.plan.specs.Plan.{tickText}
 use Rattle.control.specs.Count.{oneMore, more}
-use Rattle.trace.specs.Trace.{Arrays, pushInto, phaseNumber}
+use Rattle.trace.specs.Trace.{Arrays, pushInto, tickPhase}
 use Rattle.trace.specs.Lines.{lines, loggedIn}
 
 module _ (n : ℕ) where
@@ -15,7 +15,7 @@ module _ (n : ℕ) where
   line-none k a taken w q = let z : n - 0 ≡ n = omega arith in ap (λ (x : ℕ). loggedIn (lines x 0 k a taken w) q) z
 
   pub line-next : (t k a : ℕ) (taken : Bool) (w : ℕ) (q : Arrays) → t < n
-      → loggedIn (lines (n - t) t k a taken w) q ≡ loggedIn (lines (n - (t + 1)) (t + 1) k a taken w) (pushInto (record { number = more (t + 1) k; address = a; phase = phaseNumber t; text = text (tickText t taken w) }) q)
+      → loggedIn (lines (n - t) t k a taken w) q ≡ loggedIn (lines (n - (t + 1)) (t + 1) k a taken w) (pushInto (record { number = more (t + 1) k; address = a; phase = tickPhase t; text = text (tickText t taken w) }) q)
   unfolding lines loggedIn
   line-next t k a taken w q h = let z : n - t ≡ suc (n - (t + 1)) = omega arith in ap (λ (x : ℕ). loggedIn (lines x t k a taken w) q) z
 

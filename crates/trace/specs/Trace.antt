@@ -8,6 +8,7 @@ use lib.Dec.{ltb}
 use lib.ListN.{length, take, drop, getD, set}
 use Rattle.isa.specs.Sizes.{textWidth}
 use Rattle.isa.specs.declared.text.Text.{Text}
+use Rattle.plan.specs.Plan.{phaseNumber, phaseOf}
 use Rattle.trace.specs.declared.records.TraceRecord.{TraceRecord}
 use Rattle.trace.specs.declared.records.Ring.{Ring}
 
@@ -15,9 +16,9 @@ use Rattle.trace.specs.declared.records.Ring.{Ring}
 abbrev pub traceLimit : ℕ
 traceLimit = 512
 
--- the phase of a tick: 0 in a fetch tick, 2 in an execute tick
-abbrev pub phaseNumber : ℕ → ℕ
-phaseNumber t = cond (ltb t 4) 0 2
+-- the number of a tick's phase: 0 in a fetch tick, 2 in an execute tick
+abbrev pub tickPhase : ℕ → ℕ
+tickPhase t = phaseNumber (phaseOf t)
 
 -- one record more; of 512 the oldest goes
 unfoldable pub pushed : {A : Type 0} → A → List A → List A

@@ -10,8 +10,8 @@ pub use cells::set_word;
 pub use lines::push_lines;
 pub use records::Ring;
 pub use records::TraceRecord;
-pub use records::phase_number;
 pub use records::push_trace;
+pub use records::tick_phase;
 pub use touched::touch;
 
 // The most records of a trace.

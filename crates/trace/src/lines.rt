@@ -5,8 +5,8 @@ ghost use Rattle.trace.specs.Lines.{lines, loggedIn};
 use crate::COLUMNS_LENGTH;
 use crate::TRACE_LIMIT;
 use crate::records::Ring;
-use crate::records::phase_number;
 use crate::records::push_trace;
+use crate::records::tick_phase;
 use plan::tick_text;
 
 // The records of an instruction of n ticks: micro operations before it, its address, whether a jump is taken.
@@ -30,7 +30,7 @@ pub fn push_lines(
     while tick < n {
         let count = std::num::wrapping_add_u64(number, 1);
         let text = tick_text(tick, taken, word);
-        let phase = phase_number(tick);
+        let phase = tick_phase(tick);
         let next = push_trace(q, text, count, address, phase, columns, numbers, lengths);
         q = next;
         number = count;

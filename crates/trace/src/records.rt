@@ -5,12 +5,13 @@
 ghost use mathlib.Core.Path.{_≡_};
 ghost use Prim.Native.Nat.{_<_, _*_};
 ghost use lib.ListN.{length};
-ghost use Rattle.trace.specs.Trace.{columnsLength, pasted, arraysOf, phaseNumber, nextRing, pushInto};
+ghost use Rattle.trace.specs.Trace.{columnsLength, pasted, arraysOf, tickPhase, nextRing, pushInto};
 use crate::ADDRESSES_AT;
 use crate::COLUMNS_LENGTH;
 use crate::PHASES_AT;
 use crate::TRACE_LIMIT;
 use isa::Text;
+use plan::phase_of;
 
 // One register transfer: its number, the instruction's address, the phase (0 fetch, 2 execute), and
 // its text.
@@ -59,10 +60,11 @@ fn next_ring(ring: Ring) -> Ring
 }
 
 // The phase of a tick, as the trace has it.
-pub fn phase_number(tick: u8) -> u8
-    ensures { λ r. ⌜ r ≡ phaseNumber tick ⌝ }
+pub fn tick_phase(tick: u8) -> u8
+    ensures { λ r. ⌜ r ≡ tickPhase tick ⌝ }
 {
-    if tick < 4 { 0 } else { 2 }
+    let phase = phase_of(tick);
+    phase.number()
 }
 
 // One record more; of 512 the oldest goes.

@@ -97,14 +97,14 @@ pub served-ok : (q : Parts) (n r : ℕ) → r ≡ stepRefusal (q .core) n (q .to
 unfolding stepRefusal
 served-ok q n r e z = no-refusal (okOf q n) (q .core .state .control .halted) (overCounted (q .core .counters)) (sym e ∙ z)
 
-module _ {A : Type 0} (n k : ℕ) (h : Bool) (a still moving : A) (m next : Machine) (e : n ≡ k) where
-  pub refuses : (n ≡ 0 → ⊥) → answered n a m ≡ outcomeIf k h still moving m next
-  refuses z = rw (← e, ne-eqb n 0 z)
+module _ {A : Type 0} (n k : ℕ) (h : Bool) (a none still moving : A) (m next : Machine) (e : n ≡ k) where
+  pub refuses : (n ≡ 0 → ⊥) → a ≡ none → answered n a m ≡ outcomeIf k h none still moving m next
+  refuses z s = rw (← e, ne-eqb n 0 z, s)
 
-  pub stays : n ≡ 0 → h ≡ true → a ≡ still → answered n a m ≡ outcomeIf k h still moving m next
+  pub stays : n ≡ 0 → h ≡ true → a ≡ still → answered n a m ≡ outcomeIf k h none still moving m next
   stays z t s = rw (← e, eq-eqb n 0 z, t, s)
 
-  pub moves : {m' : Machine} → n ≡ 0 → h ≡ false → a ≡ moving → m' ≡ next → answered n a m' ≡ outcomeIf k h still moving m next
+  pub moves : {m' : Machine} → n ≡ 0 → h ≡ false → a ≡ moving → m' ≡ next → answered n a m' ≡ outcomeIf k h none still moving m next
   moves z t s w = rw (← e, eq-eqb n 0 z, t, s, w)
 
 -- ---- `run` by its tests

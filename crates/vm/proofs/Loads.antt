@@ -4,8 +4,8 @@ use Prim.Native.Nat.{ℕ, zero, suc, _≤_, _-_}
 use native.Mathlib.Omega.{arith}
 use mathlib.Core.Path.{_≡_, refl, ap, sym, _∙_}
 use mathlib.Core.Bool.{Bool, true, false, cond, _&&_}
-use mathlib.Core.List.{List, _++_, append-nil}
-use borrow.Author.Tests.{ltb-false, eqb-true}
+use mathlib.Core.List.{List, [], _++_, append-nil}
+use borrow.Author.Tests.{ltb-false, eqb-true, ne-eqb}
 use lib.Dec.{eqb, ltb}
 use lib.ListN.{length, getD, replicate, length-replicate}
 use lib.Seq.{take-all}
@@ -16,7 +16,7 @@ use Rattle.vm.specs.View.{Fit}
 use Rattle.vm.specs.Refusal.{Sizes}
 use Rattle.vm.specs.Calls.{partsOf, viewOf, isMachine, restOf, restarted, imageWords, imageSize}
 use Rattle.marks.specs.Marks.{marked}
-use Rattle.vm.specs.Guard.{guardedStart, guardedRun, guardedOf}
+use Rattle.vm.specs.Guard.{guardedStart, guardedRun, guardedOf, GuardedAnswer, guardedAnswerOf, servedAnswer, refusedRun, guardedAnswer}
 use Rattle.guard.specs.Input.{Input, zeroOne, inputRefusal}
 use Rattle.vm.proofs.Starts.{size-few, new-ok}
 use Rattle.vm.proofs.Fits.{fit}
@@ -98,3 +98,34 @@ module _ (i : Input) {new : Code} {words : List ℕ} {size : ℕ} (machine : new
     load-run e =
         let m = machine ∙ (λ k. restarted (loaded k) ((counted ∙ size-is (length (i .image)) (has .0)) k) 0) in
         λ k. guardedRun marked (i .breaks) 0 (i .budget) (record { machine = viewOf (m k); marks = record { memory = (e ∙ words-are (i .marks) (has .1)) k; registers = replicate 16 0; mdr = 0 } })
+
+-- ---- what the call answers
+
+module _ (i : Input) where
+  pub answer-served : inputRefusal i ≡ 0 → guardedAnswer i ≡ servedAnswer i
+  unfolding guardedAnswer
+  answer-served e = ap (λ (n : ℕ). cond (eqb n 0) (servedAnswer i) (guardedAnswerOf (refusedRun n))) e
+
+  pub answer-refused : {n : ℕ} → n ≡ inputRefusal i → (n ≡ 0 → ⊥) → guardedAnswerOf (refusedRun n) ≡ guardedAnswer i
+  unfolding guardedAnswer
+  answer-refused {n} e h =
+      sym (ap (λ (b : Bool). cond b (servedAnswer i) (guardedAnswerOf (refusedRun n))) (ne-eqb n 0 h))
+      ∙ ap (λ (k : ℕ). cond (eqb k 0) (servedAnswer i) (guardedAnswerOf (refusedRun k))) e
+
+-- the number is that of the input's refusal, whatever is answered
+pub answer-refusal : (i : Input) → guardedAnswer i .refused ≡ inputRefusal i
+unfolding refusedRun
+answer-refusal i = go (inputRefusal i) refl
+  where
+    go : (n : ℕ) → inputRefusal i ≡ n → guardedAnswer i .refused ≡ inputRefusal i
+    go zero e = ap (λ (a : GuardedAnswer). a .refused) (answer-served i e) ∙ sym e
+    go (suc n) e = ap (λ (a : GuardedAnswer). a .refused) (sym (answer-refused i {n = suc n} (sym e) (λ z. omega (arith, z)))) ∙ sym e
+
+-- a refused one is a machine too
+pub refused-ok : (n : ℕ) → isMachine (refusedRun n .machine) ≡ true
+unfolding refusedRun
+refused-ok n = new-ok (imageWords []) 0 0 (omega arith)
+
+pub refused-number : (n : ℕ) → refusedRun n .refused ≡ n
+unfolding refusedRun
+refused-number n = refl

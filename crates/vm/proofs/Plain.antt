@@ -24,7 +24,7 @@ use Rattle.guard.specs.declared.stops.RunStop.the-variants.{Breakpoint as RunBr
 use Rattle.vm.specs.Machine.{Machine, microStep}
 use Rattle.vm.specs.Instruction.{Steps, started, ticked, unlessZero, steps, stepInstruction}
 use Rattle.vm.specs.Run.{verdict, closed, RunEnd, run}
-use Rattle.guard.specs.Stops.{Verdict, go, stop, haltStop, reached, verdictIf}
+use Rattle.guard.specs.Stops.{Verdict, go, stop, haltStop, reached, verdictIf, stopNumber, runNumber, runRefusal}
 use Rattle.vm.specs.Calls.{restarted}
 use Rattle.vm.specs.Guard.{Guarded, GuardedEnd, nextWord, guardedStep, guardClosed, guardedEnd, guard, guardedRun, guardedStart, guardedOf}
 use Rattle.guard.specs.Input.{Input, inputRefusal}
@@ -117,27 +117,35 @@ plain-hidden hid b n g h = plain-end hid b n g ∙ left-open (guardedRun hid b 0
 -- ---- beside `run`
 
 -- both go on; both stop, and leave the machine alike; or the guarded run stops for something hidden
+-- two stops with one number, neither a refusal, that leave the same machine
+record Alike (c : GuardedStop) (d : RunStop) : Type 0 where
+  number : stopNumber c ≡ runNumber d
+  served : runRefusal d ≡ 0
+  leaves : (m : Machine) → guardClosed c m ≡ closed d m
+
 data Turn (v : Verdict GuardedStop) (u : Verdict RunStop) : Type 0 where
   on : v ≡ go → u ≡ go → Turn v u
-  off : (c : GuardedStop) (d : RunStop) → v ≡ stop c → u ≡ stop d → ((m : Machine) → guardClosed c m ≡ closed d m) → Turn v u
+  off : (c : GuardedStop) (d : RunStop) → v ≡ stop c → u ≡ stop d → Alike c d → Turn v u
   hidden : (c : GuardedStop) → v ≡ stop c → hides c ≡ true → Turn v u
 
-halts : (f : Fault) (m : Machine) → guardClosed (haltedStop f) m ≡ closed (haltStop f) m
-halts Healthy m = refl
-halts (UnknownInstruction w a) m = refl
-halts (StepBudgetExhausted w a) m = refl
+halts : (f : Fault) → Alike (haltedStop f) (haltStop f)
+halts Healthy = record { number = refl; served = refl; leaves = λ m. refl }
+halts (UnknownInstruction w a) = record { number = refl; served = refl; leaves = λ m. refl }
+halts (StepBudgetExhausted w a) = record { number = refl; served = refl; leaves = λ m. refl }
 
 -- by the tests; no counter is near its end, or it is not looked at
 beside : (h b z w j o : Bool) (s : State) → (z ≡ false → o ≡ false) → Turn (guardIf h b z w j (s .fault)) (verdictIf h b z o s)
 beside true b z w j o s q = off (haltedStop (s .fault)) (haltStop (s .fault)) refl refl (halts (s .fault))
-beside false true z w j o s q = off Breakpoint (RunBreakpoint (s .control .pc)) refl refl (λ m. refl)
-beside false false true w j o s q = off Budget RunBudget refl refl (λ m. refl)
+beside false true z w j o s q = off Breakpoint (RunBreakpoint (s .control .pc)) refl refl (record { number = refl; served = refl; leaves = λ m. refl })
+beside false false true w j o s q = off Budget RunBudget refl refl (record { number = refl; served = refl; leaves = λ m. refl })
 beside false false false true j o s q = hidden HiddenWord refl refl
 beside false false false false true o s q = hidden HiddenJump refl refl
 beside false false false false false o s q = on refl (ap (λ (x : Bool). cond x (stop (Refused 9)) go) (q refl))
 
--- two ends that show the same
+-- two ends that show the same: the stop's number, which is no refusal, the machine, and how many instructions were begun
 pub record Same (e : GuardedEnd) (r : RunEnd) : Type 0 where
+  pub stop : stopNumber (e .stop) ≡ runNumber (r .stop)
+  pub served : runRefusal (r .stop) ≡ 0
   pub machine : e .guarded .machine ≡ r .machine
   pub executed : e .executed ≡ r .executed
 
@@ -154,12 +162,14 @@ module _ (hid : ℕ → Bool) (b : List ℕ) where
       let some : eqb n 0 ≡ false → 0 < n = λ e. omega (arith, eqb-false n 0 e) in
       beside (m .state .control .halted) (reached b k pc) (eqb n 0) (hid (getD (g .marks .memory) pc 0)) (hiddenJump hid (nextWord m) (g .marks .registers)) (overCounted (m .counters)) (m .state) (λ e. u 0 (some e))
 
-  ended : (k n : ℕ) (g : Guarded) (c : GuardedStop) (d : RunStop) → guard hid b k n g ≡ stop c → verdict b k n (g .machine) ≡ stop d → ((m : Machine) → guardClosed c m ≡ closed d m) → Same (guardedRun hid b k n g) (run b k n (g .machine))
+  ended : (k n : ℕ) (g : Guarded) (c : GuardedStop) (d : RunStop) → guard hid b k n g ≡ stop c → verdict b k n (g .machine) ≡ stop d → Alike c d → Same (guardedRun hid b k n g) (run b k n (g .machine))
   ended k n g c d p q r =
       let x = guard-stops hid b k n g c p in
       let y = run-stops b k n (g .machine) d q in
       record {
-        machine = ap (λ (e : GuardedEnd). e .guarded .machine) x ∙ r (g .machine) ∙ sym (ap (λ (e : RunEnd). e .machine) y);
+        stop = ap (λ (e : GuardedEnd). stopNumber (e .stop)) x ∙ r .number ∙ sym (ap (λ (e : RunEnd). runNumber (e .stop)) y);
+        served = ap (λ (e : RunEnd). runRefusal (e .stop)) y ∙ r .served;
+        machine = ap (λ (e : GuardedEnd). e .guarded .machine) x ∙ r .leaves (g .machine) ∙ sym (ap (λ (e : RunEnd). e .machine) y);
         executed = ap (λ (e : GuardedEnd). e .executed) x ∙ sym (ap (λ (e : RunEnd). e .executed) y);
       }
 
@@ -254,7 +264,7 @@ module _ (hid : ℕ → Bool) (i : Input) where
   unfolding guardedOf
   hidden-end h = plain-hidden hid (i .breaks) (i .budget) (guardedStart (i .image) (i .marks)) h
 
-  -- at every other: the machine that `run` leaves
+  -- at every other: the stop that `run` has, and the machine that it leaves
   pub open-end : inputRefusal i ≡ 0 → let e = guardedOf hid i in hides (e .stop) ≡ false → Same e (run (i .breaks) 0 (i .budget) plain)
   unfolding guardedOf
   open-end z h = plain-run hid (i .breaks) 0 (i .budget) (guardedStart (i .image) (i .marks)) (start-uncounted (i .image) (i .marks) (i .budget) (served-input i z .2)) h

@@ -17,7 +17,7 @@ use Rattle.guard.specs.Stops.{Verdict, go, stop, verdictIf, reached, after}
 use Rattle.vm.specs.Machine.{Machine}
 use Rattle.vm.specs.Instruction.{stepInstruction}
 use Rattle.vm.specs.Run.{verdict, closed, runEnd, spentControl, run}
-use Rattle.vm.specs.View.{Parts, parts, view, Fit, spentCore, stoppedCore}
+use Rattle.vm.specs.View.{Parts, parts, view, Fit, spentCore, stoppedParts}
 
 -- ---- a run by its verdicts: the law of `run` and of the guarded run (`Guards`)
 
@@ -64,9 +64,6 @@ unfolding lawful
 spent-lawful c e = halted-ok (leb (c .tick) 6) _ e
 
 -- ---- the parts after a stop
-
-abbrev pub stoppedParts : RunStop → Parts → Parts
-stoppedParts c q = parts (stoppedCore c (q .core)) (q .memory) (q .registers) (q .touched) (q .columns) (q .numbers) (q .lengths)
 
 pub stopped-view : (c : RunStop) (q : Parts) → view (stoppedParts c q) ≡ closed c (view q)
 stopped-view Halted q = refl

@@ -21,10 +21,10 @@ use Rattle.control.specs.declared.control.State.{State}
 use Rattle.control.specs.declared.control.Operands.{Operands}
 use Rattle.control.specs.declared.control.Tick.{Tick}
 use Rattle.control.specs.declared.counters.Counters.{Counters}
-use Rattle.tick.specs.Tick.{withControl, plain, nextPc, haltingTick, toTick, decodeAs, decodeTick, executeTick, endedTick, laterTick, onward, tickOf}
+use Rattle.tick.specs.Tick.{withControl, plain, nextPc, haltingTick, isHalt, toTick, decodeAs, decodeTick, executeTick, endedTick, laterTick, onward, tickOf}
 use Rattle.control.specs.Count.{countTick}
 use Rattle.trace.specs.declared.records.TraceRecord.{TraceRecord}
-use Rattle.trace.specs.Trace.{pushed, phaseNumber}
+use Rattle.trace.specs.Trace.{pushed, tickPhase}
 use Rattle.trace.specs.Cells.{registerOf, registersAfter, registersBy, memoryAfter}
 use Rattle.trace.proofs.Writes.{one-of-sixteen}
 use Rattle.trace.specs.Touched.{touchedBy}
@@ -110,7 +110,7 @@ module _ (s : State) (o : Operands) (byte : s .control .mar < 256) where
   execute-sends Unknown n = tt
 
   decode-sends : (d : Decoded) → Addressed (decodeAs d s .bus)
-  decode-sends (Known c) = go (eqb (executeTicks (Known c)) 0)
+  decode-sends (Known c) = go (isHalt c)
     where
       at : Control
       at = nextPc (executeTicks (Known c)) (s .control)
@@ -187,7 +187,7 @@ text-field t taken w e = rw e (length-padded 32 (tickText t taken w) (text-fits 
 module _ (m : Machine) (o : Operands) (x : Text) (ph : ℕ) (q : Tick) (eo : o ≡ operandsOf (m .state) (m .memory) (m .registers)) (eq : q ≡ tickOf (m .state .control .tick) (m .state) o) where
   pub is-tick : (k : Counters) {m' r' l' : List ℕ} {t' : List TraceRecord}
       → x ≡ nextTextOn (m .state) o
-      → ph ≡ phaseNumber (m .state .control .tick)
+      → ph ≡ tickPhase (m .state .control .tick)
       → k ≡ countTick (q .bus) (q .completed) (m .counters)
       → m' ≡ memoryAfter (q .bus) (m .memory)
       → r' ≡ registersBy (q .write) (m .registers)

@@ -13,7 +13,7 @@ use Rattle.control.specs.declared.control.Control.{Control}
 use Rattle.control.specs.Lawful.{lawful}
 use Rattle.trace.specs.declared.records.TraceRecord.{TraceRecord}
 use Rattle.control.specs.Count.{more}
-use Rattle.trace.specs.Trace.{Arrays, live, ArraysFit, pushInto, phaseNumber}
+use Rattle.trace.specs.Trace.{Arrays, live, ArraysFit, pushInto, tickPhase}
 use Rattle.trace.specs.Lines.{lines, logged, loggedIn}
 use Rattle.trace.specs.Touched.{placesOf, touchedBy, touchIn, TouchFit}
 use Rattle.trace.specs.Cells.{registersAfter, memoryAfter}
@@ -44,7 +44,7 @@ lines-live : (n t k a : ℕ) (taken : Bool) (w : ℕ) (q : Arrays) → ArraysFit
 unfolding lines logged loggedIn
 lines-live zero t k a taken w q f = record { same = refl; fit = f }
 lines-live (suc n) t k a taken w q f =
-    let e : TraceRecord = record { number = more (t + 1) k; address = a; phase = phaseNumber t; text = text (tickText t taken w) } in
+    let e : TraceRecord = record { number = more (t + 1) k; address = a; phase = tickPhase t; text = text (tickText t taken w) } in
     let z = pushed-live e q refl (text-field t taken w refl) (short-text t taken w refl) f in
     let r = lines-live n (t + 1) k a taken w (pushInto e q) (z .1) in
     record { same = r .same ∙ ap (logged (lines n (t + 1) k a taken w)) (z .0); fit = r .fit }

@@ -12,18 +12,21 @@ use Rattle.isa.specs.declared.text.Text.{Text}
 use Rattle.isa.specs.Text.{ascii, text}
 use Rattle.isa.specs.Word.{instruction}
 use Rattle.disasm.specs.Disassembly.{disassembleText}
-use Rattle.plan.specs.declared.plan.Phase.the-variants.{Halt}
+use Rattle.plan.specs.declared.plan.Phase.the-variants.{Fetch, Halt}
 use Rattle.plan.specs.declared.plan.TransferPlan.{TransferPlan}
-use Rattle.plan.specs.Plan.{phaseOf}
+use Rattle.plan.specs.Plan.{phaseNumber, phaseOf}
 use Rattle.control.specs.declared.control.State.{State}
 use Rattle.control.specs.declared.control.Fault.{Fault}
 use Rattle.control.specs.declared.control.Fault.the-variants.{Healthy, UnknownInstruction, StepBudgetExhausted}
+use Rattle.control.specs.declared.control.BusTransfer.{BusTransfer}
 use Rattle.control.specs.declared.control.BusTransfer.the-variants.{Idle}
 use Rattle.control.specs.declared.control.AluRecord.the-variants.{Unused}
+use Rattle.control.specs.declared.control.RegisterWrite.{RegisterWrite}
 use Rattle.control.specs.declared.control.RegisterWrite.the-variants.{Unwritten}
 use Rattle.vm.specs.declared.machine.Machine.{Machine as Code}
 use Rattle.vm.specs.declared.transfer.Core.{Core}
 use Rattle.vm.specs.declared.run.RanCore.{RanCore}
+use Rattle.vm.specs.declared.run.Ran.{Ran}
 use Rattle.vm.specs.declared.transfer.Done.{Done}
 use Rattle.vm.specs.declared.machine.Served.{Served}
 use Rattle.vm.specs.declared.micro.MicroOp.{MicroOp}
@@ -34,12 +37,14 @@ use Rattle.vm.specs.declared.readings.InstructionRead.{InstructionRead}
 use Rattle.vm.specs.declared.readings.TextRead.{TextRead}
 use Rattle.vm.specs.declared.readings.PositionRead.{PositionRead}
 use Rattle.vm.specs.declared.readings.ImageRead.{ImageRead}
+use Rattle.guard.specs.declared.stops.RunStop.{RunStop}
 use Rattle.guard.specs.declared.stops.RunStop.the-variants.{AlreadyHalted, Refused}
+use Rattle.guard.specs.Stops.{Told, told}
 use Rattle.trace.specs.Trace.{columnsLength, traceLimit}
 use Rattle.vm.specs.Machine.{Machine, nextText, nextDone, microStep}
 use Rattle.vm.specs.Instruction.{stepInstruction, tickTexts, textsFrom}
 use Rattle.vm.specs.Run.{RunEnd, run}
-use Rattle.vm.specs.View.{Parts, parts, view}
+use Rattle.vm.specs.View.{Parts, parts, view, stoppedCore}
 use Rattle.vm.specs.Refusal.{partsOk, refusal, stepRefusal}
 
 -- ---- the struct and the machine that it holds
@@ -168,13 +173,14 @@ imageRead n m = record { refused = n; words = cond (eqb n 0) (m .image) (replica
 
 -- ---- `micro_step` and `step_instruction`
 
--- a number alone, or an answer; and the machine that is left
-pub data Outcome (A : Type 0) : Type 0 where
-  refused : ℕ → Machine → Outcome A
-  served : A → Machine → Outcome A
+-- the number of the refusal, 0 where there is none; what is answered, zeros beside a refusal; and the machine that is left
+pub record Outcome (A : Type 0) : Type 0 where
+  pub refused : ℕ
+  pub answer : A
+  pub machine : Machine
 
 abbrev pub answered : {A : Type 0} → ℕ → A → Machine → Outcome A
-answered n a m = cond (eqb n 0) (served a m) (refused n m)
+answered n a m = record { refused = n; answer = a; machine = m }
 
 abbrev pub hasFault : Fault → Bool
 hasFault Healthy = false
@@ -207,16 +213,56 @@ opAfter t s d x = record {
   address = s .control .«instruction_address»;
 }
 
+-- what is answered of it (01, last paragraph): its phase by number
+pub record OpAnswer : Type 0 where
+  pub text : Text
+  pub phase : ℕ
+  pub ends : Bool
+  pub halts : Bool
+  pub faulted : Bool
+  pub bus : BusTransfer
+  pub write : RegisterWrite
+  pub address : ℕ
+
+abbrev pub opAnswer : MicroOp → OpAnswer
+opAnswer o = record {
+  text = o .text;
+  phase = phaseNumber (o .phase);
+  ends = o .«ends_instruction»;
+  halts = o .halts;
+  faulted = o .faulted;
+  bus = o .bus;
+  write = o .write;
+  address = o .address;
+}
+
 -- the transfer that is reported, of a running machine
 unfoldable pub microOp : Machine → MicroOp
 microOp m = opAfter (m .state .control .tick) (microStep m .state) (nextDone m) (nextText m)
 
--- by the refusal, and whether it is halted
-abbrev pub outcomeIf : {A : Type 0} → ℕ → Bool → A → A → Machine → Machine → Outcome A
-outcomeIf n halted still moving m next = cond (eqb n 0) (cond halted (served still m) (served moving next)) (refused n m)
+-- by the refusal, and whether it is halted: what is answered beside a refusal, by a halted machine, and by one that moves
+abbrev pub outcomeIf : {A : Type 0} → ℕ → Bool → A → A → A → Machine → Machine → Outcome A
+outcomeIf n halted none still moving m next = cond (eqb n 0) (cond halted (answered n still m) (answered n moving next)) (answered n none m)
+
+-- beside a refusal: zeros
+abbrev pub noOp : MicroOp
+noOp = record {
+  text = text [];
+  phase = Fetch;
+  «ends_instruction» = false;
+  halts = false;
+  faulted = false;
+  bus = Idle;
+  write = Unwritten;
+  address = 0;
+}
 
 unfoldable pub microOutcome : ℕ → Machine → Outcome MicroOp
-microOutcome n m = outcomeIf n (m .state .control .halted) (haltedOp (m .state)) (microOp m) m (microStep m)
+microOutcome n m = outcomeIf n (m .state .control .halted) noOp (haltedOp (m .state)) (microOp m) m (microStep m)
+
+-- what the call answers
+abbrev pub microAnswer : Outcome MicroOp → Outcome OpAnswer
+microAnswer o = answered (o .refused) (opAnswer (o .answer)) (o .machine)
 
 -- the address and the word at PC, the texts of the ticks, whether the last one halted or faulted
 abbrev pub reportOn : Machine → TransferPlan → Bool → Bool → InstructionReport
@@ -234,8 +280,12 @@ haltedReport m = reportOn m haltedTexts true (hasFault (m .state .fault))
 unfoldable pub instructionReport : Machine → InstructionReport
 instructionReport m = let s = stepInstruction m in reportOn m (textsFrom (tickTexts 7 m)) (s .machine .state .control .halted) (s .done .faulted)
 
+-- beside a refusal: zeros
+abbrev pub noReport : InstructionReport
+noReport = record { address = 0; word = 0; text = text []; «micro_ops» = textsFrom []; halted = false; faulted = false }
+
 unfoldable pub stepOutcome : ℕ → Machine → Outcome InstructionReport
-stepOutcome n m = outcomeIf n (m .state .control .halted) (haltedReport m) (instructionReport m) m (stepInstruction m .machine)
+stepOutcome n m = outcomeIf n (m .state .control .halted) noReport (haltedReport m) (instructionReport m) m (stepInstruction m .machine)
 
 -- ---- `run`
 
@@ -249,3 +299,35 @@ runOutcome ok breaks n m =
     cond ok
     (cond (m .state .control .halted) (record { stop = AlreadyHalted; executed = 0; machine = m }) (run breaks 0 n m))
     (record { stop = Refused 8; executed = 0; machine = m })
+
+-- what a run answers (01, last paragraph): its stop by number and values, the instructions that it began, and the machine that it leaves
+pub record RunAnswer : Type 0 where
+  pub stop : Told
+  pub executed : ℕ
+  pub machine : Machine
+
+abbrev pub runAnswer : RunEnd → RunAnswer
+runAnswer e = record { stop = told (e .stop); executed = e .executed; machine = e .machine }
+
+-- the same of the struct that the call answers
+abbrev pub answerOf : Ran → RunAnswer
+answerOf r = record { stop = told (r .stop); executed = r .executed .0; machine = viewOf (r .machine) }
+
+-- the struct after a run that began nothing: as it came, dead places and all, but for the halt by a spent budget
+abbrev pub stoppedCode : RunStop → Code → Code
+stoppedCode c m = record {
+  memory = m .memory;
+  registers = m .registers;
+  state = stoppedCore c (coreOf m) .state;
+  counters = stoppedCore c (coreOf m) .counters;
+  columns = m .columns;
+  numbers = m .numbers;
+  lengths = m .lengths;
+  «trace_start» = stoppedCore c (coreOf m) .«trace_start»;
+  «trace_len» = stoppedCore c (coreOf m) .«trace_len»;
+  touched = m .touched;
+  «touched_len» = stoppedCore c (coreOf m) .«touched_len»;
+  image = m .image;
+  «image_len» = m .«image_len»;
+  «history_len» = m .«history_len»;
+}

@@ -1,16 +1,16 @@
 -- The guarded run (01, section 5): `run` of a new machine, with two tests after the budget's. `hid` says which marks hide a value.
 -- Assumes nothing.
 use Prim.Native.Nat.{ℕ, zero, suc, _+_}
-use mathlib.Core.Bool.{Bool}
-use mathlib.Core.List.{List}
+use mathlib.Core.Bool.{Bool, cond}
+use mathlib.Core.List.{List, []}
 use lib.Dec.{eqb}
 use lib.ListN.{length, getD, replicate}
-use Rattle.isa.specs.Sizes.{registerCount}
+use Rattle.isa.specs.Sizes.{memoryWords, registerCount}
 use Rattle.guard.specs.declared.stops.GuardedStop.{GuardedStop}
 use Rattle.guard.specs.declared.stops.GuardedStop.the-variants.{Halted, Breakpoint, Fault as Faulted, Budget, HiddenWord, HiddenJump}
-use Rattle.marks.specs.Marks.{Marks, marksOf, instructionMarks}
-use Rattle.guard.specs.Stops.{Verdict, after, reached, hiddenJump, guardIf}
-use Rattle.guard.specs.Input.{Input}
+use Rattle.marks.specs.Marks.{Marks, marked, marksOf, instructionMarks}
+use Rattle.guard.specs.Stops.{Verdict, after, reached, hiddenJump, guardIf, stopNumber}
+use Rattle.guard.specs.Input.{Input, inputRefusal}
 use Rattle.vm.specs.declared.guarded.GuardedRun.{GuardedRun}
 use Rattle.vm.specs.declared.transfer.Core.{Core}
 use Rattle.vm.specs.Machine.{Machine}
@@ -18,7 +18,7 @@ use Rattle.vm.specs.Instruction.{stepInstruction}
 use Rattle.vm.specs.Run.{spentState}
 use Rattle.vm.specs.declared.guarded.GuardedCore.{GuardedCore}
 use Rattle.vm.specs.View.{Parts, view, spentCore}
-use Rattle.vm.specs.Calls.{viewOf, restarted, imageWords}
+use Rattle.vm.specs.Calls.{Rest, restOf, viewOf, restarted, imageWords}
 
 pub record Guarded : Type 0 where
   pub machine : Machine
@@ -87,10 +87,41 @@ guardedOn q m r d = record { machine = view q; marks = marksOf m r d }
 abbrev pub endOn : GuardedCore → Guarded → GuardedEnd
 endOn r g = record { stop = r .stop; executed = r .executed .0; guarded = g }
 
--- how the run ended, of the struct that the call answers
-abbrev pub endOf : GuardedRun → GuardedEnd
-endOf r = record {
-  stop = r .stop;
+-- ---- what the call answers (01, section 1 and last paragraph)
+
+-- the number of the refusal, 0 where there is none; the stop by its number; the instructions begun; the machine with its marks; what no tick reads or writes
+pub record GuardedAnswer : Type 0 where
+  pub refused : ℕ
+  pub stop : ℕ
+  pub executed : ℕ
+  pub guarded : Guarded
+  pub rest : Rest
+
+-- of the struct that is answered
+abbrev pub guardedAnswerOf : GuardedRun → GuardedAnswer
+guardedAnswerOf r = record {
+  refused = r .refused;
+  stop = stopNumber (r .stop);
   executed = r .executed .0;
-  guarded = record { machine = viewOf (r .machine); marks = record { memory = r .marks .memory; registers = r .marks .registers; mdr = r .marks .mdr } };
+  guarded = record { machine = viewOf (r .machine); marks = marksOf (r .marks .memory) (r .marks .registers) (r .marks .mdr) };
+  rest = restOf (r .machine);
 }
+
+-- a served run
+abbrev pub servedAnswer : Input → GuardedAnswer
+servedAnswer i =
+    let e = guardedOf marked i in
+    record { refused = 0; stop = stopNumber (e .stop); executed = e .executed; guarded = e .guarded; rest = record { image = imageWords (i .image); length = length (i .image); history = 0 } }
+
+-- a refused one: an empty machine, no marks, stop 0 and nothing begun, whatever was handed in
+unfoldable pub refusedRun : ℕ → GuardedRun
+refusedRun n = record {
+  machine = restarted (imageWords []) 0 0;
+  marks = record { memory = replicate memoryWords 0; registers = replicate registerCount 0; mdr = 0 };
+  stop = Halted;
+  executed = record { 0 = 0 };
+  refused = n;
+}
+
+unfoldable pub guardedAnswer : Input → GuardedAnswer
+guardedAnswer i = cond (eqb (inputRefusal i) 0) (servedAnswer i) (guardedAnswerOf (refusedRun (inputRefusal i)))

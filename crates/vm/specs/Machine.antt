@@ -17,7 +17,7 @@ use Rattle.tick.specs.Tick.{tickOf}
 use Rattle.control.specs.Count.{countTick}
 use Rattle.trace.specs.declared.records.TraceRecord.{TraceRecord}
 use Rattle.vm.specs.declared.transfer.Done.{Done}
-use Rattle.trace.specs.Trace.{pushed, phaseNumber}
+use Rattle.trace.specs.Trace.{pushed, tickPhase}
 use Rattle.trace.specs.Cells.{registersAfter, memoryAfter}
 use Rattle.trace.specs.Touched.{touchedBy}
 
@@ -55,7 +55,7 @@ afterTick m x t =
       counters = k;
       memory = memoryAfter (t .bus) (m .memory);
       registers = registersAfter (t .write) (m .registers);
-      trace = pushed (record { number = k .«micro_operations»; address = t .state .control .«instruction_address»; phase = phaseNumber (m .state .control .tick); text = x }) (m .trace);
+      trace = pushed (record { number = k .«micro_operations»; address = t .state .control .«instruction_address»; phase = tickPhase (m .state .control .tick); text = x }) (m .trace);
       touched = touchedBy (t .bus) (m .touched);
     }
 

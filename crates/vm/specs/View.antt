@@ -85,3 +85,7 @@ stoppedCore Fault c = c
 stoppedCore Budget c = spentCore c
 stoppedCore AlreadyHalted c = c
 stoppedCore (Refused n) c = c
+
+-- the parts after one
+abbrev pub stoppedParts : RunStop → Parts → Parts
+stoppedParts c q = parts (stoppedCore c (q .core)) (q .memory) (q .registers) (q .touched) (q .columns) (q .numbers) (q .lengths)

@@ -1,24 +1,23 @@
 // The guarded run: a run of a new machine that stops before it would show what is hidden. The plain
 // machine does not see the marks; they move beside it, once for each instruction.
 ghost use mathlib.Core.Path.{_≡_};
-ghost use mathlib.Core.Bool.{true, cond};
-ghost use lib.Dec.{eqb};
-ghost use lib.ListN.{length};
+ghost use mathlib.Core.Bool.{true};
 ghost use Rattle.marks.specs.Marks.{marked};
-ghost use Rattle.guard.specs.Input.{inputRefusal};
+ghost use Rattle.guard.specs.Input.{inputFrom, inputRefusal};
 ghost use Rattle.vm.specs.View.{Fit, given, came, left};
-ghost use Rattle.vm.specs.Guard.{closedCore, guardedRun, guardedOf, guardedOn, endOn, endOf};
-ghost use Rattle.vm.specs.Calls.{imageWords, isMachine, restOf};
+ghost use Rattle.vm.specs.Guard.{closedCore, guardedRun, guardedOn, endOn};
+ghost use Rattle.vm.specs.Guard.{guardedAnswerOf, servedAnswer, refusedRun, guardedAnswer};
+ghost use Rattle.vm.specs.Calls.{isMachine};
 use crate::machine::Machine;
 use crate::machine::image_size;
 use crate::machine::image_words;
 use crate::machine::mark_words;
 use crate::machine::switched_on;
-use crate::run::Begun;
 use crate::run::exhausted;
 use crate::transfer::Core;
 use crate::whole::forward_parts;
 use crate::whole::next_parts;
+use guard::Begun;
 use guard::GuardedStop;
 use guard::Verdict;
 use guard::guard_refusal;
@@ -82,7 +81,15 @@ fn guarded_parts(
         let pc = state.control.pc as usize;
         let word = memory[pc];
         let mark = marks[pc];
-        let verdict = judge(state, breakpoints, begun, limit, word, mark, register_marks);
+        let verdict = judge(
+            state,
+            breakpoints,
+            Begun(begun),
+            Begun(limit),
+            word,
+            mark,
+            register_marks,
+        );
         if let Verdict::Stop(stop) = verdict {
             let core = closed_core(stop, s);
             return GuardedCore {
@@ -107,8 +114,8 @@ fn guarded_parts(
         begun += 1;
         let f = forward_parts(
             next,
-            begun,
-            limit,
+            Begun(begun),
+            Begun(limit),
             breakpoints,
             memory,
             registers,
@@ -119,21 +126,11 @@ fn guarded_parts(
         let core = f.core;
         s = core;
         mdr = opened;
-        begun += f.made;
+        begun += f.made.0;
     }
 }
 
-// A refused run begins no instruction.
-fn allowed(refused: u8, budget: Begun) -> Begun
-    ensures { λ r. ⌜ r .0 ≡ cond (eqb refused 0) (budget .0) 0 ⌝ }
-{
-    if refused == 0 {
-        return budget;
-    }
-    Begun(0)
-}
-
-// `refused` is 0, or the number of the refusal, beside which the rest counts for nothing.
+// `refused` is 0, or the number of the refusal, beside which the rest is a fixed answer.
 pub struct GuardedRun {
     pub machine: Machine,
     pub marks: Marks,
@@ -142,15 +139,32 @@ pub struct GuardedRun {
     pub refused: u8,
 }
 
-// Load an image on a new machine, and run it until a stop; `marks` are those of its memory.
-pub fn guarded_run(image: &[u16], marks: &[u8], budget: Begun, breakpoints: &[u8]) -> GuardedRun
-    ensures refusal { λ r. ⌜ r .refused ≡ inputRefusal (record { image = now (image .entry); marks = now (marks .entry); budget = budget .0; breaks = now (breakpoints .entry) }) ⌝ }
-    ensures answer { λ r. ⌜ (r .refused ≡ 0 → endOf r ≡ guardedOf marked (record { image = now (image .entry); marks = now (marks .entry); budget = budget .0; breaks = now (breakpoints .entry) })) ⌝ }
-    ensures rest { λ r. ⌜ (r .refused ≡ 0 → restOf (r .machine) ≡ record { image = imageWords (now (image .entry)); length = length (now (image .entry)); history = 0 }) ⌝ }
-    ensures machine { λ r. ⌜ isMachine (r .machine) ≡ true ⌝ }
+// What is answered beside a refusal: nothing of it was handed in.
+fn refused_run(refused: u8) -> GuardedRun
+    ensures { λ r. ⌜ r ≡ refusedRun refused ⌝ }
 {
-    let limit = budget.0;
-    let refused = guard_refusal(image, marks, limit, breakpoints);
+    let machine = Machine::new();
+    let marks = Marks {
+        memory: [0; MEMORY_WORDS],
+        registers: [0; REGISTER_COUNT],
+        mdr: 0,
+    };
+    GuardedRun {
+        machine,
+        marks,
+        stop: GuardedStop::Halted,
+        executed: Begun(0),
+        refused,
+    }
+}
+
+// The run of an input that is not refused.
+fn accepted_run(image: &[u16], marks: &[u8], budget: Begun, breakpoints: &[u8]) -> GuardedRun
+    requires { ⌜ inputRefusal (inputFrom (now image) (now marks) (budget .0) (now breakpoints)) ≡ 0 ⌝ }
+    ensures { λ r. ⌜ (
+        (guardedAnswerOf r ≡ servedAnswer (inputFrom (now (image .entry)) (now (marks .entry)) (budget .0) (now (breakpoints .entry))))
+        × (isMachine (r .machine) ≡ true)) ⌝ }
+{
     let words = image_words(image);
     let size = image_size(image.len());
     let new = switched_on(words, size, 0);
@@ -171,10 +185,9 @@ pub fn guarded_run(image: &[u16], marks: &[u8], budget: Begun, breakpoints: &[u8
     let mut touched = new.touched;
     let mut word_marks = mark_words(marks);
     let mut register_marks = [0u8; REGISTER_COUNT];
-    let given = allowed(refused, budget);
     let r = guarded_parts(
         core,
-        given,
+        budget,
         breakpoints,
         &mut word_marks,
         &mut register_marks,
@@ -217,6 +230,20 @@ pub fn guarded_run(image: &[u16], marks: &[u8], budget: Begun, breakpoints: &[u8
         marks,
         stop,
         executed,
-        refused,
+        refused: 0,
     }
+}
+
+// Load an image on a new machine, and run it until a stop; `marks` are those of its memory.
+pub fn guarded_run(image: &[u16], marks: &[u8], budget: Begun, breakpoints: &[u8]) -> GuardedRun
+    ensures answer { λ r. ⌜ guardedAnswerOf r
+        ≡ guardedAnswer (inputFrom (now (image .entry)) (now (marks .entry)) (budget .0) (now (breakpoints .entry))) ⌝ }
+    ensures fixed { λ r. ⌜ ((r .refused ≡ 0 → ⊥) → r ≡ refusedRun (r .refused)) ⌝ }
+    ensures machine { λ r. ⌜ isMachine (r .machine) ≡ true ⌝ }
+{
+    let refused = guard_refusal(image, marks, budget, breakpoints);
+    if refused != 0 {
+        return refused_run(refused);
+    }
+    accepted_run(image, marks, budget, breakpoints)
 }

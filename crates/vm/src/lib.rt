@@ -13,6 +13,7 @@ mod transfer;
 mod undo;
 mod whole;
 
+pub use guard::Begun;
 pub use guarded::GuardedRun;
 pub use guarded::guarded_run;
 pub use instruction::Ticks;
@@ -30,6 +31,5 @@ pub use readings::RunningRead;
 pub use readings::TextRead;
 pub use report::InstructionAnswer;
 pub use report::InstructionReport;
-pub use run::Begun;
 pub use run::Ran;
 pub use transfer::Core;

@@ -1,9 +1,10 @@
 // One register transfer, as it is called.
 ghost use mathlib.Core.Path.{_≡_};
 ghost use mathlib.Core.Bool.{true};
-ghost use Rattle.vm.specs.View.{parts, view};
-ghost use Rattle.vm.specs.Refusal.{partsOk, stepRefusal, Sizes};
-ghost use Rattle.vm.specs.Calls.{hasFault, haltedOp, opAfter, answered, microOutcome, viewOf, isMachine, stepRefusalOf, restOf};
+ghost use Rattle.vm.specs.View.{view, given, came, left};
+ghost use Rattle.vm.specs.Refusal.{sound, refusalOn, Sizes};
+ghost use Rattle.vm.specs.Calls.{hasFault, noOp, haltedOp, opAfter, opAnswer, answered, microOutcome, microAnswer};
+ghost use Rattle.vm.specs.Calls.{viewOf, isMachine, stepRefusalOf, restOf};
 use crate::check::step_refusal;
 use crate::instruction::Ticks;
 use crate::instruction::instruction_parts;
@@ -36,7 +37,7 @@ pub struct MicroOp {
     pub address: u8,
 }
 
-// `refused` is 0, or the number of the refusal, beside which `op` counts for nothing.
+// `refused` is 0, or the number of the refusal, beside which `op` is zeros.
 pub struct MicroAnswer {
     pub machine: Machine,
     pub refused: u8,
@@ -56,6 +57,23 @@ pub(crate) fn has_fault(fault: Fault) -> bool
         Fault::Healthy => false,
         Fault::UnknownInstruction { .. } => true,
         Fault::StepBudgetExhausted { .. } => true,
+    }
+}
+
+// Beside a refusal: zeros.
+fn no_op() -> MicroOp
+    ensures { λ r. ⌜ r ≡ noOp ⌝ }
+{
+    let text = Text::from_bytes(b"");
+    MicroOp {
+        text,
+        phase: Phase::Fetch,
+        ends_instruction: false,
+        halts: false,
+        faulted: false,
+        bus: BusTransfer::Idle,
+        write: RegisterWrite::Unwritten,
+        address: 0,
     }
 }
 
@@ -108,8 +126,13 @@ fn micro_parts(
     numbers: &mut [u64; TRACE_LIMIT],
     lengths: &mut [u8; TRACE_LIMIT],
 ) -> MicroCore
-    requires { ⌜ Sizes (parts core (now memory) (now registers) (now touched) (now columns) (now numbers) (now lengths)) ⌝ }
-    ensures { λ r. ⌜ (answered (r .refused) (r .op) (view (parts (r .core) (now (memory .exit)) (now (registers .exit)) (now (touched .exit)) (now (columns .exit)) (now (numbers .exit)) (now (lengths .exit)))) ≡ microOutcome (stepRefusal core size (now (touched .entry)) (now (lengths .entry))) (view (parts core (now (memory .entry)) (now (registers .entry)) (now (touched .entry)) (now (columns .entry)) (now (numbers .entry)) (now (lengths .entry))))) × ((r .refused ≡ 0 → ⊥) → parts (r .core) (now (memory .exit)) (now (registers .exit)) (now (touched .exit)) (now (columns .exit)) (now (numbers .exit)) (now (lengths .exit)) ≡ parts core (now (memory .entry)) (now (registers .entry)) (now (touched .entry)) (now (columns .entry)) (now (numbers .entry)) (now (lengths .entry))) × (partsOk core size (now (touched .entry)) (now (lengths .entry)) ≡ true → partsOk (r .core) size (now (touched .exit)) (now (lengths .exit)) ≡ true) ⌝ }
+    requires { ⌜ Sizes (given core memory registers touched columns numbers lengths) ⌝ }
+    ensures { λ r. ⌜ (
+        let was = came core memory registers touched columns numbers lengths in
+        let is = left (r .core) memory registers touched columns numbers lengths in
+        (answered (r .refused) (r .op) (view is) ≡ microOutcome (refusalOn size was) (view was))
+        × ((r .refused ≡ 0 → ⊥) → is ≡ was)
+        × (sound size was ≡ true → sound size is ≡ true)) ⌝ }
 {
     let state = core.state;
     let still = halted_op(state);
@@ -117,7 +140,7 @@ fn micro_parts(
     if refused != 0 {
         return MicroCore {
             refused,
-            op: still,
+            op: no_op(),
             core,
         };
     }
@@ -157,7 +180,8 @@ fn micro_parts(
 impl Machine {
     // Perform exactly one register transfer.
     pub fn micro_step(self) -> MicroAnswer
-        ensures answer { λ r. ⌜ answered (r .refused) (r .op) (viewOf (r .machine)) ≡ microOutcome (stepRefusalOf self) (viewOf self) ⌝ }
+        ensures answer { λ r. ⌜ answered (r .refused) (opAnswer (r .op)) (viewOf (r .machine))
+            ≡ microAnswer (microOutcome (stepRefusalOf self) (viewOf self)) ⌝ }
         ensures rest { λ r. ⌜ restOf (r .machine) ≡ restOf self ⌝ }
         ensures kept { λ r. ⌜ ((r .refused ≡ 0 → ⊥) → r .machine ≡ self) ⌝ }
         ensures lasting { λ r. ⌜ (isMachine self ≡ true → isMachine (r .machine) ≡ true) ⌝ }

@@ -3,7 +3,7 @@ ghost use mathlib.Core.Path.{_≡_};
 ghost use mathlib.Core.Bool.{true};
 ghost use Rattle.vm.specs.View.{view, given, came, left};
 ghost use Rattle.vm.specs.Refusal.{sound, refusalOn, Sizes};
-ghost use Rattle.vm.specs.Calls.{haltedTexts, answered, stepOutcome, viewOf, isMachine, stepRefusalOf, restOf};
+ghost use Rattle.vm.specs.Calls.{haltedTexts, noReport, answered, stepOutcome, viewOf, isMachine, stepRefusalOf, restOf};
 use crate::check::step_refusal;
 use crate::machine::Machine;
 use crate::micro::has_fault;
@@ -30,7 +30,7 @@ pub struct InstructionReport {
     pub faulted: bool,
 }
 
-// `refused` is 0, or the number of the refusal, beside which `report` counts for nothing.
+// `refused` is 0, or the number of the refusal, beside which `report` is zeros.
 pub struct InstructionAnswer {
     pub machine: Machine,
     pub refused: u8,
@@ -58,6 +58,22 @@ fn halted_texts() -> TransferPlan
         none,
     ];
     TransferPlan { texts, count: 1 }
+}
+
+// Beside a refusal: zeros.
+fn no_report() -> InstructionReport
+    ensures { λ r. ⌜ r ≡ noReport ⌝ }
+{
+    let none = Text::from_bytes(b"");
+    let texts = [none, none, none, none, none, none, none];
+    InstructionReport {
+        address: 0,
+        word: 0,
+        text: none,
+        micro_ops: TransferPlan { texts, count: 0 },
+        halted: false,
+        faulted: false,
+    }
 }
 
 // Tick by tick, or whole where it can be.
@@ -98,7 +114,7 @@ fn step_parts(
     if refused != 0 {
         return InstructionCore {
             refused,
-            report: still,
+            report: no_report(),
             core,
         };
     }

@@ -2,9 +2,9 @@
 ghost use mathlib.Core.Path.{_≡_};
 ghost use mathlib.Core.Bool.{true, false};
 ghost use Rattle.vm.specs.Run.{run};
-ghost use Rattle.vm.specs.View.{view, Fit, spentCore, stoppedCore, given, came, left};
+ghost use Rattle.vm.specs.View.{view, Fit, spentCore, stoppedCore, stoppedParts, given, came, left};
 ghost use Rattle.vm.specs.Refusal.{sound, Sizes};
-ghost use Rattle.vm.specs.Calls.{ranOn, runOutcome, viewOf, isMachine, restOf};
+ghost use Rattle.vm.specs.Calls.{ranOn, runOutcome, runAnswer, answerOf, stoppedCode, viewOf, isMachine, restOf};
 use crate::check::parts_ok;
 use crate::machine::Machine;
 use crate::transfer::Core;
@@ -12,6 +12,7 @@ use crate::whole::forward_parts;
 use crate::whole::next_parts;
 use control::Fault;
 use control::State;
+use guard::Begun;
 use guard::RunStop;
 use guard::RunVerdict;
 use guard::run_verdict;
@@ -19,9 +20,6 @@ use isa::MEMORY_WORDS;
 use isa::REGISTER_COUNT;
 use trace::COLUMNS_LENGTH;
 use trace::TRACE_LIMIT;
-
-// A number of instructions begun.
-pub struct Begun(pub u64);
 
 pub struct RanCore {
     pub core: Core,
@@ -89,7 +87,9 @@ pub(crate) fn run_parts(
     ensures { λ r. ⌜ (
         let was = came from memory registers touched columns numbers lengths in
         let is = left (r .core) memory registers touched columns numbers lengths in
-        (ranOn r is ≡ run (now (breakpoints .entry)) 0 (budget .0) (view was)) × Fit is) ⌝ }
+        (ranOn r is ≡ run (now (breakpoints .entry)) 0 (budget .0) (view was))
+        × (r .executed .0 ≡ 0 → is ≡ stoppedParts (r .stop) was)
+        × Fit is) ⌝ }
 {
     let mut marks = [0u8; MEMORY_WORDS];
     let mut register_marks = [0u8; REGISTER_COUNT];
@@ -99,7 +99,7 @@ pub(crate) fn run_parts(
     loop {
         let state = s.state;
         let counters = s.counters;
-        let verdict = run_verdict(state, counters, breakpoints, begun, limit);
+        let verdict = run_verdict(state, counters, breakpoints, Begun(begun), Begun(limit));
         if let RunVerdict::Stop(stop) = verdict {
             let core = stopped_core(stop, s);
             return RanCore {
@@ -122,8 +122,8 @@ pub(crate) fn run_parts(
         begun += 1;
         let f = forward_parts(
             next,
-            begun,
-            limit,
+            Begun(begun),
+            Begun(limit),
             breakpoints,
             memory,
             registers,
@@ -133,7 +133,7 @@ pub(crate) fn run_parts(
         );
         let core = f.core;
         s = core;
-        begun += f.made;
+        begun += f.made.0;
     }
 }
 
@@ -155,7 +155,7 @@ fn run_checked(
         let was = came core memory registers touched columns numbers lengths in
         let is = left (r .core) memory registers touched columns numbers lengths in
         (ranOn r is ≡ runOutcome (sound size was) (now (breakpoints .entry)) (budget .0) (view was))
-        × (sound size was ≡ false → is ≡ was)
+        × (r .executed .0 ≡ 0 → is ≡ stoppedParts (r .stop) was)
         × (sound size was ≡ true → sound size is ≡ true)) ⌝ }
 {
     let good = parts_ok(core, size, touched, lengths);
@@ -196,10 +196,9 @@ pub struct Ran {
 impl Machine {
     // Run until HALT, a fault, a breakpoint or the end of the budget.
     pub fn run(self, budget: Begun, breakpoints: &[u8]) -> Ran
-        ensures answer { λ r. ⌜ record { stop = r .stop; executed = r .executed .0; machine = viewOf (r .machine) }
-            ≡ runOutcome (isMachine self) (now (breakpoints .entry)) (budget .0) (viewOf self) ⌝ }
+        ensures answer { λ r. ⌜ answerOf r ≡ runAnswer (runOutcome (isMachine self) (now (breakpoints .entry)) (budget .0) (viewOf self)) ⌝ }
         ensures rest { λ r. ⌜ restOf (r .machine) ≡ restOf self ⌝ }
-        ensures kept { λ r. ⌜ (isMachine self ≡ false → r .machine ≡ self) ⌝ }
+        ensures kept { λ r. ⌜ (r .executed .0 ≡ 0 → r .machine ≡ stoppedCode (r .stop) self) ⌝ }
         ensures lasting { λ r. ⌜ (isMachine self ≡ true → isMachine (r .machine) ≡ true) ⌝ }
     {
         let state = self.state;
@@ -261,10 +260,9 @@ impl Machine {
     // The same by the direct engine, which `run` is: its instructions are whole ones, but for one that the call finds
     // under way.
     pub fn direct_run(self, budget: Begun, breakpoints: &[u8]) -> Ran
-        ensures answer { λ r. ⌜ record { stop = r .stop; executed = r .executed .0; machine = viewOf (r .machine) }
-            ≡ runOutcome (isMachine self) (now (breakpoints .entry)) (budget .0) (viewOf self) ⌝ }
+        ensures answer { λ r. ⌜ answerOf r ≡ runAnswer (runOutcome (isMachine self) (now (breakpoints .entry)) (budget .0) (viewOf self)) ⌝ }
         ensures rest { λ r. ⌜ restOf (r .machine) ≡ restOf self ⌝ }
-        ensures kept { λ r. ⌜ (isMachine self ≡ false → r .machine ≡ self) ⌝ }
+        ensures kept { λ r. ⌜ (r .executed .0 ≡ 0 → r .machine ≡ stoppedCode (r .stop) self) ⌝ }
         ensures lasting { λ r. ⌜ (isMachine self ≡ true → isMachine (r .machine) ≡ true) ⌝ }
     {
         self.run(budget, breakpoints)

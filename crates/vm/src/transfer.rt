@@ -16,10 +16,10 @@ use tick::tick_of;
 use trace::COLUMNS_LENGTH;
 use trace::Ring;
 use trace::TRACE_LIMIT;
-use trace::phase_number;
 use trace::push_trace;
 use trace::set_register;
 use trace::set_word;
+use trace::tick_phase;
 use trace::touch;
 
 // What is small: passed by value at every level.
@@ -88,7 +88,7 @@ pub(crate) fn tick_parts(
     let o = read_operands(old, memory, registers);
     let tick = old.control.tick;
     let text = tick_text(tick, o.x == o.zero, old.control.ir);
-    let phase = phase_number(tick);
+    let phase = tick_phase(tick);
     let t = tick_of(old, o);
     let new = t.state;
     let bus = t.bus;

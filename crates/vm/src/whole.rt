@@ -16,6 +16,7 @@ use direct::Lane;
 use direct::Small;
 use direct::light_forward;
 use direct::whole_instruction;
+use guard::Begun;
 use isa::MEMORY_WORDS;
 use isa::REGISTER_COUNT;
 use trace::COLUMNS_LENGTH;
@@ -148,15 +149,15 @@ fn with_lane(core: Core, lane: Lane) -> Core
 // Where a run goes on, and how many instructions were made.
 pub struct Forwarded {
     pub core: Core,
-    pub made: u64,
+    pub made: Begun,
 }
 
 // What a run makes without records once its first instruction is made: none where that halted the machine. Marks that
 // hide nothing are those of a run without any.
 pub(crate) fn forward_parts(
     from: Core,
-    begun: u64,
-    limit: u64,
+    begun: Begun,
+    limit: Begun,
     breakpoints: &[u8],
     memory: &mut [u16; MEMORY_WORDS],
     registers: &mut [u16; REGISTER_COUNT],
@@ -164,22 +165,22 @@ pub(crate) fn forward_parts(
     marks: &mut [u8; MEMORY_WORDS],
     register_marks: &mut [u8; REGISTER_COUNT],
 ) -> Forwarded
-    requires { ⌜ (from .state .control .tick ≡ 0) × TouchFit (from .«touched_len») (now touched) × (begun ≤ limit) ⌝ }
-    ensures { λ r. ⌜ Ahead (now (breakpoints .entry)) begun limit
+    requires { ⌜ (from .state .control .tick ≡ 0) × TouchFit (from .«touched_len») (now touched) × (begun .0 ≤ limit .0) ⌝ }
+    ensures { λ r. ⌜ Ahead (now (breakpoints .entry)) (begun .0) (limit .0)
         from (now (memory .entry)) (now (registers .entry)) (now (touched .entry)) (now (marks .entry)) (now («register_marks» .entry))
-        (r .made) (r .core) (now (memory .exit)) (now (registers .exit)) (now (touched .exit)) (now (marks .exit)) (now («register_marks» .exit)) ⌝ }
+        (r .made .0) (r .core) (now (memory .exit)) (now (registers .exit)) (now (touched .exit)) (now (marks .exit)) (now («register_marks» .exit)) ⌝ }
 {
     let state = from.state;
-    if begun != 1 {
+    if begun.0 != 1 {
         return Forwarded {
             core: from,
-            made: 0,
+            made: Begun(0),
         };
     }
     if state.control.halted {
         return Forwarded {
             core: from,
-            made: 0,
+            made: Begun(0),
         };
     }
     let counters = from.counters;
@@ -190,9 +191,10 @@ pub(crate) fn forward_parts(
         touched_len: from.touched_len,
         pc: state.control.pc,
     };
+    let more = limit.0 - begun.0;
     let m = light_forward(
         lane,
-        limit - begun,
+        Begun(more),
         breakpoints,
         memory,
         registers,

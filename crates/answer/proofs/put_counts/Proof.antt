@@ -1,10 +1,13 @@
 -- Assumes nothing.
+use Prim.Native.Nat.{ℕ}
 use native.Mathlib.Omega.{arith}
-use mathlib.Core.List.{_++_}
+use mathlib.Core.Path.{ap, _∙_}
+use mathlib.Core.List.{List, _++_}
 use denote.Ref.{now}
 use lib.ListN.{replicate}
 use Rattle.isa.specs.Text.{ascii}
 use Rattle.answer.specs.Line.{decimal, countsLine}
+use Rattle.answer.specs.Answer.{answerOutcome}
 use Rattle.answer.proofs.Lines.{two-pieces}
 use borrow.Author.Needs.{needs}
 use Rattle.answer.proofs.put_counts.Statement.{statement}
@@ -34,8 +37,8 @@ slice-aggregate-first c = search needs
 first-requires : tie.Need-first-requires
 first-requires c κs = search needs
 
-put-bytes-requires : tie.Need-put-bytes-requires
-put-bytes-requires c κs = search needs
+put-whole-requires : tie.Need-put-whole-requires
+put-whole-requires c κs = search needs
 
 same-length : tie.Need-same-length
 same-length c = search needs
@@ -48,7 +51,9 @@ returns c =
     let q = f .before .before .before .before in
     let r = q .before .before .before .before in
     let a = r .before .before .before .before .args in
-    two-pieces (now (a .out)) (replicate 64 0) (decimal (a .passed) ++ ascii " passed, ") (decimal (a .failed) ++ ascii " failed\n") (r .put-numbered .result) (omega (arith, r .put-numbered .ensures .0)) (omega (arith, r .put-numbered .ensures .1 .0)) (r .put-numbered .ensures .1 .1) (q .put-numbered2 .ensures .1 .1) (q .put-numbered2 .ensures .0) (f .first .ensures) (p .put-bytes .ensures)
+    p .put-whole .ensures
+    ∙ ap (λ (l : List ℕ). answerOutcome l (now (a .out)))
+    (two-pieces (replicate 64 0) (decimal (a .passed) ++ ascii " passed, ") (decimal (a .failed) ++ ascii " failed\n") (r .put-numbered .result) (omega (arith, r .put-numbered .ensures .0)) (omega (arith, r .put-numbered .ensures .1 .0)) (r .put-numbered .ensures .1 .1) (q .put-numbered2 .ensures .1 .1) (q .put-numbered2 .ensures .0) (f .first .ensures))
 
 pub put-counts-spec : {M : Type 1} → statement M
 put-counts-spec =
@@ -62,6 +67,6 @@ put-counts-spec =
     put-numbered-requires-2
     slice-aggregate-first
     first-requires
-    put-bytes-requires
+    put-whole-requires
     same-length
     returns)

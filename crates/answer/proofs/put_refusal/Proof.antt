@@ -1,6 +1,6 @@
 -- Assumes nothing.
 use Prim.Native.Nat.{ℕ}
-use mathlib.Core.Path.{refl, _∙_}
+use mathlib.Core.Path.{refl, ap, _∙_}
 use mathlib.Core.List.{List, _++_}
 use denote.Ref.{now}
 use lib.Dec.{lit≤}
@@ -8,6 +8,7 @@ use lib.ListN.{replicate}
 use Rattle.isa.specs.Text.{ascii}
 use Rattle.encoding.proofs.Written.{written-fits}
 use Rattle.answer.specs.Line.{decimal, refusalLine}
+use Rattle.answer.specs.Answer.{answerOutcome}
 use Rattle.answer.proofs.Lines.{two-pieces}
 use borrow.Author.Needs.{needs}
 use Rattle.answer.proofs.put_refusal.Statement.{statement}
@@ -37,8 +38,8 @@ slice-aggregate-first c = search needs
 first-requires : tie.Need-first-requires
 first-requires c κs = search needs
 
-put-bytes-requires-2 : tie.Need-put-bytes-requires-2
-put-bytes-requires-2 c κs = search needs
+put-whole-requires : tie.Need-put-whole-requires
+put-whole-requires c κs = search needs
 
 same-length : tie.Need-same-length
 same-length c = search needs
@@ -52,7 +53,9 @@ returns c =
     let r = q .before .before .before .before in
     let a = r .before .before .before .before .args in
     let d : List ℕ = replicate 64 0 in
-    two-pieces (now (a .out)) d (ascii "refused ") (decimal (a .number) ++ ascii "\n") 8 refl (lit≤ tt) (r .put-bytes .ensures ∙ written-fits d 0 (ascii "refused ") (lit≤ tt)) (q .put-numbered .ensures .1 .1) (q .put-numbered .ensures .0) (f .first .ensures) (p .put-bytes2 .ensures)
+    p .put-whole .ensures
+    ∙ ap (λ (l : List ℕ). answerOutcome l (now (a .out)))
+    (two-pieces d (ascii "refused ") (decimal (a .number) ++ ascii "\n") 8 refl (lit≤ tt) (r .put-bytes .ensures ∙ written-fits d 0 (ascii "refused ") (lit≤ tt)) (q .put-numbered .ensures .1 .1) (q .put-numbered .ensures .0) (f .first .ensures))
 
 pub put-refusal-spec : {M : Type 1} → statement M
 put-refusal-spec =
@@ -66,6 +69,6 @@ put-refusal-spec =
     put-numbered-requires
     slice-aggregate-first
     first-requires
-    put-bytes-requires-2
+    put-whole-requires
     same-length
     returns)

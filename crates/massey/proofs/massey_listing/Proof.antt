@@ -1,23 +1,37 @@
 -- Assumes nothing.
 use Prim.Native.Nat.{_≤_}
 use native.Mathlib.Omega.{arith}
-use mathlib.Core.Path.{sym, ap, _∙_}
+use mathlib.Core.Path.{_≡_, sym, ap, _∙_}
 use denote.Ref.{now}
+use lib.IntN.{ℤ}
+use Rattle.listing.specs.declared.Listed.{Listed}
+use Rattle.listing.specs.declared.Listed.the-variants.{Written, Refused}
 use Rattle.listing.specs.Listing as listing
 use Rattle.listing.proofs.Listings.{bytes-at-most}
 use Rattle.report.specs.Public.{reportLimit}
-use Rattle.massey.specs.Calls.{outcome, listedNumber, listingOutcome}
+use Rattle.massey.specs.Calls.{outcome, numberOf, listingOutcome}
 use Rattle.massey.proofs.Answers.{small, length-read, minus-fits, refusal-read}
 use borrow.Author.Needs.{needs}
 use Rattle.massey.proofs.massey_listing.Statement.{statement}
 use Rattle.massey.proofs.massey_listing.Tie as tie
 
--- a length that is answered, and a refusal's number
+-- what is told, where a length is answered and where a refusal's number is
+module _ (p : tie.After-list-bytes) where
+  told : {l : Listed} → p .list-bytes .result ≡ l → listing.outcome l (p .list-bytes .last .1 .0) ≡ listing.bytesOutcome (now (p .before .before .before .before .args .image)) (now (p .before .before .before .before .args .out))
+  told e = ap (λ (l : Listed). listing.outcome l (p .list-bytes .last .1 .0)) (sym e) ∙ p .list-bytes .ensures
+
+listed : (c : tie.After-known-told) → c .before .listed .given .0 .0 ≡ listing.bytesOutcome (now (c .before .before .before .before .before .before .before .before .before .args .image)) (now (c .before .before .before .before .before .before .before .before .before .args .out)) .answer .length
+listed c = ap (λ (o : listing.Outcome). o .answer .length) (told (c .before .before .before .before .before) (c .before .listed .given .1))
+
 at-most : (c : tie.After-known-told) → c .before .listed .given .0 .0 ≤ reportLimit
 at-most c =
-    let p = c .before .before .before .before .before in
-    let s = p .before .before .before .before .args in
-    omega (arith, bytes-at-most (now (s .image)) (now (s .out)) (sym (ap (λ (o : listing.Outcome). o .answer) (p .list-bytes .ensures)) ∙ c .before .listed .given .1))
+    let s = c .before .before .before .before .before .before .before .before .before .args in
+    omega (arith, listed c, bytes-at-most (now (s .image)) (now (s .out)))
+
+numbered : {n : ℤ} {a o : listing.Outcome} → n ≡ numberOf (a .answer .refused) (a .answer .length) → a ≡ o → outcome n (a .buffer) ≡ outcome (numberOf (o .answer .refused) (o .answer .length)) (o .buffer)
+numbered e t =
+    let f = e ∙ ap (λ (o : listing.Outcome). numberOf (o .answer .refused) (o .answer .length)) t in
+    λ i. outcome (f i) (t i .buffer)
 
 byte : (c : tie.After-known-told2) → c .before .listed2 .given .0 .0 ≤ 255
 byte c = omega (arith, c .known-told2 .given)
@@ -46,10 +60,8 @@ same-length c = search needs
 returns : tie.Need-returns
 unfolding listingOutcome
 returns c =
-    let p = c .before .before .before .before .before in
-    let a = length-read (at-most c) ∙ ap listedNumber (sym (c .before .listed .given .1) ∙ ap (λ (o : listing.Outcome). o .answer) (p .list-bytes .ensures)) in
-    let b = ap (λ (o : listing.Outcome). o .buffer) (p .list-bytes .ensures) in
-    λ i. outcome (a i) (b i)
+    let t = told (c .before .before .before .before .before) (c .before .listed .given .1) in
+    numbered (length-read (at-most c)) t
 
 same-length-2 : tie.Need-same-length-2
 same-length-2 c = search needs
@@ -57,10 +69,8 @@ same-length-2 c = search needs
 returns-2 : tie.Need-returns-2
 unfolding listingOutcome
 returns-2 c =
-    let p = c .before .before .before .before .before in
-    let a = refusal-read (byte c) ∙ ap listedNumber (sym (c .before .listed2 .given .1) ∙ ap (λ (o : listing.Outcome). o .answer) (p .list-bytes .ensures)) in
-    let b = ap (λ (o : listing.Outcome). o .buffer) (p .list-bytes .ensures) in
-    λ i. outcome (a i) (b i)
+    let t = told (c .before .before .before .before .before) (c .before .listed2 .given .1) in
+    numbered (refusal-read (byte c)) t
 
 pub massey-listing-spec : {M : Type 1} → statement M
 massey-listing-spec =

@@ -1,23 +1,38 @@
 -- Assumes nothing.
 use Prim.Native.Nat.{_≤_}
 use native.Mathlib.Omega.{arith}
-use mathlib.Core.Path.{sym, ap, _∙_}
+use mathlib.Core.Path.{_≡_, sym, ap, _∙_}
 use denote.Ref.{now}
+use lib.IntN.{ℤ}
+use Rattle.report.specs.declared.Reported.{Reported}
 use Rattle.report.specs.Outcome as reporting
+use Rattle.report.specs.Program.{bytesOutcome}
 use Rattle.report.proofs.Programs.{bytes-at-most}
 use Rattle.report.specs.Public.{reportLimit}
-use Rattle.massey.specs.Calls.{outcome, reportedNumber, reportedOutcome}
+use Rattle.massey.specs.Calls.{outcome, numberOf, reportedOutcome}
 use Rattle.massey.proofs.Answers.{small, length-read, minus-fits, refusal-read}
 use borrow.Author.Needs.{needs}
 use Rattle.massey.proofs.massey_report.Statement.{statement}
 use Rattle.massey.proofs.massey_report.Tie as tie
 
--- a length that is answered, and a refusal's number
+-- what is told, where a length is answered and where a refusal's number is
+module _ (p : tie.After-report-bytes) where
+  told : {r : Reported} → p .report-bytes .result ≡ r
+      → reporting.outcome r (p .report-bytes .last .1 .0) ≡ bytesOutcome (now (p .before .before .before .before .args .input)) (now (p .before .before .before .before .args .out))
+  told e = ap (λ (r : Reported). reporting.outcome r (p .report-bytes .last .1 .0)) (sym e) ∙ p .report-bytes .ensures
+
 at-most : (c : tie.After-known-told) → c .before .reported .given .0 .0 ≤ reportLimit
 at-most c =
     let p = c .before .before .before .before .before in
     let s = p .before .before .before .before .args in
-    bytes-at-most (now (s .input)) (now (s .out)) (sym (ap (λ (o : reporting.Outcome). o .answer) (p .report-bytes .ensures)) ∙ c .before .reported .given .1)
+    let e = ap (λ (o : reporting.Outcome). o .answer .length) (told p (c .before .reported .given .1)) in
+    omega (arith, e, bytes-at-most (now (s .input)) (now (s .out)))
+
+numbered : {n : ℤ} {a o : reporting.Outcome} → n ≡ numberOf (a .answer .refused) (a .answer .length) → a ≡ o
+    → outcome n (a .buffer) ≡ outcome (numberOf (o .answer .refused) (o .answer .length)) (o .buffer)
+numbered e t =
+    let f = e ∙ ap (λ (o : reporting.Outcome). numberOf (o .answer .refused) (o .answer .length)) t in
+    λ i. outcome (f i) (t i .buffer)
 
 byte : (c : tie.After-known-told2) → c .before .reported2 .given .0 .0 ≤ 255
 byte c = omega (arith, c .known-told2 .given)
@@ -45,22 +60,14 @@ same-length c = search needs
 
 returns : tie.Need-returns
 unfolding reportedOutcome
-returns c =
-    let p = c .before .before .before .before .before in
-    let a = length-read (at-most c) ∙ ap reportedNumber (sym (c .before .reported .given .1) ∙ ap (λ (o : reporting.Outcome). o .answer) (p .report-bytes .ensures)) in
-    let b = ap (λ (o : reporting.Outcome). o .buffer) (p .report-bytes .ensures) in
-    λ i. outcome (a i) (b i)
+returns c = numbered (length-read (at-most c)) (told (c .before .before .before .before .before) (c .before .reported .given .1))
 
 same-length-2 : tie.Need-same-length-2
 same-length-2 c = search needs
 
 returns-2 : tie.Need-returns-2
 unfolding reportedOutcome
-returns-2 c =
-    let p = c .before .before .before .before .before in
-    let a = refusal-read (byte c) ∙ ap reportedNumber (sym (c .before .reported2 .given .1) ∙ ap (λ (o : reporting.Outcome). o .answer) (p .report-bytes .ensures)) in
-    let b = ap (λ (o : reporting.Outcome). o .buffer) (p .report-bytes .ensures) in
-    λ i. outcome (a i) (b i)
+returns-2 c = numbered (refusal-read (byte c)) (told (c .before .before .before .before .before) (c .before .reported2 .given .1))
 
 pub massey-report-spec : {M : Type 1} → statement M
 massey-report-spec =

@@ -14,21 +14,21 @@ use Rattle.direct.proofs.forward.light_forward.Statement.{statement}
 use Rattle.direct.proofs.forward.light_forward.Tie as tie
 
 abbrev Inv-loop : tie.InvT-loop
-Inv-loop limit breakpoints memory₀ registers₀ touched₀ marks₀ register-marks₀ left₀ breaks seen₀ memory2₀ registers2₀ touched2₀ marks2₀ register-marks2₀ kept₀ kept-made₀ s₀ made₀ memory registers touched marks register-marks left seen memory2 registers2 touched2 marks2 register-marks2 kept kept-made s made =
+Inv-loop breakpoints memory₀ registers₀ touched₀ marks₀ register-marks₀ limit left₀ breaks seen₀ memory2₀ registers2₀ touched2₀ marks2₀ register-marks2₀ kept₀ kept-made₀ s₀ made₀ memory registers touched marks register-marks left seen memory2 registers2 touched2 marks2 register-marks2 kept kept-made s made =
     (leads breaks left (ahead kept-made (slotsOf kept memory registers touched seen marks register-marks)) made (slotsOf s memory2 registers2 touched2 seen marks2 register-marks2)
     ≡ forward breakpoints limit s₀ memory₀ registers₀ touched₀ marks₀ register-marks₀)
     × (made + left * 256 ≤ limit)
     × (limit < 18446744073709551616)
 
 abbrev μ-loop : tie.MeasureT-loop
-μ-loop limit breakpoints memory₀ registers₀ touched₀ marks₀ register-marks₀ left₀ breaks seen₀ memory2₀ registers2₀ touched2₀ marks2₀ register-marks2₀ kept₀ kept-made₀ s₀ made₀ memory registers touched marks register-marks left seen memory2 registers2 touched2 marks2 register-marks2 kept kept-made s made = left
+μ-loop breakpoints memory₀ registers₀ touched₀ marks₀ register-marks₀ limit left₀ breaks seen₀ memory2₀ registers2₀ touched2₀ marks2₀ register-marks2₀ kept₀ kept-made₀ s₀ made₀ memory registers touched marks register-marks left seen memory2 registers2 touched2 marks2 register-marks2 kept kept-made s made = left
 
 returns : tie.Need-returns Inv-loop μ-loop
 unfolding forward
 returns c =
     let a = c .before .before .args in
     let start = slotsOf (a .from) (now (a .memory)) (now (a .registers)) (now (a .touched)) (tableOf (take (a .from .«touched_len») (now (a .touched)))) (now (a .marks)) (now (a .register-marks)) in
-    sym (leads-none (tableOf (now (a .breakpoints))) (a .limit / 256) 0 (ahead 0 start) start (c .if1 .taken))
+    sym (leads-none (tableOf (now (a .breakpoints))) (a .limit .0 / 256) 0 (ahead 0 start) start (c .if1 .taken))
 
 table-of-requires : tie.Need-table-of-requires Inv-loop μ-loop
 table-of-requires c κs = search needs
@@ -42,7 +42,7 @@ loop-holds c =
     let a = c .before .before .before .before .before .before .before .before .before .before .before .args in
     let b = c .before .before .before .before .before .before .before .before .table-of in
     let f = c .before .before .before .before .before .first-table in (
-      λ i. leads (b .ensures i) (a .limit / 256) (ahead 0 (slotsOf (a .from) (now (a .memory)) (now (a .registers)) (now (a .touched)) (f .ensures i) (now (a .marks)) (now (a .register-marks)))) 0 (slotsOf (a .from) (now (a .memory)) (now (a .registers)) (now (a .touched)) (f .ensures i) (now (a .marks)) (now (a .register-marks))),
+      λ i. leads (b .ensures i) (a .limit .0 / 256) (ahead 0 (slotsOf (a .from) (now (a .memory)) (now (a .registers)) (now (a .touched)) (f .ensures i) (now (a .marks)) (now (a .register-marks)))) 0 (slotsOf (a .from) (now (a .memory)) (now (a .registers)) (now (a .touched)) (f .ensures i) (now (a .marks)) (now (a .register-marks))),
       omega arith,
       search needs,
     )

@@ -19,18 +19,18 @@ use Rattle.direct.proofs.light.light_stretch.Statement.{statement}
 use Rattle.direct.proofs.light.light_stretch.Tie as tie
 
 abbrev Inv-loop : tie.InvT-loop
-Inv-loop limit breaks memory₀ registers₀ touched₀ seen₀ marks₀ register-marks₀ s₀ made₀ memory registers touched seen marks register-marks s made =
+Inv-loop breaks memory₀ registers₀ touched₀ seen₀ marks₀ register-marks₀ limit s₀ made₀ memory registers touched seen marks register-marks s made =
     (stretch breaks (limit - made) made (slotsOf s memory registers touched seen marks register-marks) ≡ stretch breaks limit 0 (slotsOf s₀ memory₀ registers₀ touched₀ seen₀ marks₀ register-marks₀))
     × (made ≤ limit)
     × (limit < 18446744073709551616)
 
 abbrev μ-loop : tie.MeasureT-loop
-μ-loop limit breaks memory₀ registers₀ touched₀ seen₀ marks₀ register-marks₀ s₀ made₀ memory registers touched seen marks register-marks s made = limit - made
+μ-loop breaks memory₀ registers₀ touched₀ seen₀ marks₀ register-marks₀ limit s₀ made₀ memory registers touched seen marks register-marks s made = limit - made
 
 loop-holds : tie.Need-loop-holds Inv-loop μ-loop
 loop-holds c =
     let a = c .args in
-    let z : a .limit - 0 ≡ a .limit = omega arith in
+    let z : a .limit .0 - 0 ≡ a .limit .0 = omega arith in
     (ap (λ (n : ℕ). stretch (now (a .breaks)) n 0 (slotsOf (a .from) (now (a .memory)) (now (a .registers)) (now (a .touched)) (now (a .seen)) (now (a .marks)) (now (a .register-marks)))) z, zero-le, search needs)
 
 cast-at : tie.Need-cast-at Inv-loop μ-loop
@@ -55,7 +55,7 @@ returns : tie.Need-returns Inv-loop μ-loop
 returns c =
     let l = c .before .before .before .before .before .before .before .loop in
     let a = c .before .before .before .before .before .before .before .before .args in
-    sym (stretch-stop (now (a .breaks)) (a .limit) (l .made) (slotsOf (l .s) (l .memory) (l .registers) (l .touched) (l .seen) (l .marks) (l .register-marks)) (sym (c .before .may-go .ensures) ∙ not-true _ (c .if1 .taken))) ∙ l .inv .0
+    sym (stretch-stop (now (a .breaks)) (a .limit .0) (l .made) (slotsOf (l .s) (l .memory) (l .registers) (l .touched) (l .seen) (l .marks) (l .register-marks)) (sym (c .before .may-go .ensures) ∙ not-true _ (c .if1 .taken))) ∙ l .inv .0
 
 from-word-requires : tie.Need-from-word-requires Inv-loop μ-loop
 from-word-requires c κs = search needs
@@ -77,7 +77,7 @@ returns-2 c =
     let l = c .before .before .before .before .before .before .before .before .before .before .before .before .loop in
     let a = c .before .before .before .before .before .before .before .before .before .before .before .before .before .args in
     let w = getD (l .memory) (l .s .pc) 0 in
-    sym (stretch-end (now (a .breaks)) (a .limit) (l .made) (slotsOf (l .s) (l .memory) (l .registers) (l .touched) (l .seen) (l .marks) (l .register-marks)) (sym (c .before .before .before .before .before .before .may-go .ensures) ∙ not-false _ (c .before .before .before .before .before .if1 .left))
+    sym (stretch-end (now (a .breaks)) (a .limit .0) (l .made) (slotsOf (l .s) (l .memory) (l .registers) (l .touched) (l .seen) (l .marks) (l .register-marks)) (sym (c .before .before .before .before .before .before .may-go .ensures) ∙ not-false _ (c .before .before .before .before .before .if1 .left))
     (ap counts (ap lastingOf (read-off decodeWord w (c .before .before .before .before .from-word .ensures) (c .before .before .before .opcode .ensures)) ∙ sym (c .before .before .lasting .ensures) ∙ c .enum-told .given .1)))
     ∙ l .inv .0
 
@@ -91,11 +91,11 @@ known c =
     ap lastingOf (read-off decodeWord (getD (l .memory) (l .s .pc) 0) (c .before .before .before .before .before .before .before .before .before .before .before .before .from-word .ensures) (c .before .before .before .before .before .before .before .before .before .before .before .opcode .ensures)) ∙ sym (c .before .before .before .before .before .before .before .before .before .before .lasting .ensures) ∙ c .before .before .before .before .before .before .before .before .decoded .given .1
 
 turn : (c : tie.After-light-known Inv-loop μ-loop) → let l = c .before .before .before .before .before .before .before .before .before .before .before .before .before .before .before .before .before .before .before .before .loop in let a = c .before .before .before .before .before .before .before .before .before .before .before .before .before .before .before .before .before .before .before .before .before .args in let s = (slotsOf (l .s) (l .memory) (l .registers) (l .touched) (l .seen) (l .marks) (l .register-marks)) in
-    (l .made < a .limit) × (stretch (now (a .breaks)) (a .limit - l .made) (l .made) s ≡ stretch (now (a .breaks)) (a .limit - (l .made + 1)) (l .made + 1) (slotStep (decodeWord (slotWord s)) (slotWord s) s))
+    (l .made < a .limit .0) × (stretch (now (a .breaks)) (a .limit .0 - l .made) (l .made) s ≡ stretch (now (a .breaks)) (a .limit .0 - (l .made + 1)) (l .made + 1) (slotStep (decodeWord (slotWord s)) (slotWord s) s))
 turn c =
     let l = c .before .before .before .before .before .before .before .before .before .before .before .before .before .before .before .before .before .before .before .before .loop in
     let a = c .before .before .before .before .before .before .before .before .before .before .before .before .before .before .before .before .before .before .before .before .before .args in
-    stretch-turn (now (a .breaks)) (a .limit) (l .made) (slotsOf (l .s) (l .memory) (l .registers) (l .touched) (l .seen) (l .marks) (l .register-marks)) (sym (c .before .before .before .before .before .before .before .before .before .before .before .before .before .before .may-go .ensures) ∙ not-false _ (c .before .before .before .before .before .before .before .before .before .before .before .before .before .if1 .left)) (ap counts (known c))
+    stretch-turn (now (a .breaks)) (a .limit .0) (l .made) (slotsOf (l .s) (l .memory) (l .registers) (l .touched) (l .seen) (l .marks) (l .register-marks)) (sym (c .before .before .before .before .before .before .before .before .before .before .before .before .before .before .may-go .ensures) ∙ not-false _ (c .before .before .before .before .before .before .before .before .before .before .before .before .before .if1 .left)) (ap counts (known c))
 
 add-made : tie.Need-add-made Inv-loop μ-loop
 add-made c = let h = turn c .0 in omega (arith, h, c .before .before .before .before .before .before .before .before .before .before .before .before .before .before .before .before .before .before .before .before .loop .inv .2)
@@ -113,7 +113,7 @@ loop-again c =
     let o = c .before .before .before .before .before .before .before .before .decoded .given .0 .0 in
     let d = lasts-known (decodeWord w) o (known c) in
     let e : slotNext o w s ≡ slotStep (decodeWord w) w s = next-is o w s (ap halts (sym d) ∙ lasts-counts (decodeWord w) (ap counts (known c))) ∙ ap (λ (x : Decoded). slotStep x w s) (sym d) in
-    (ap (stretch (now (a .breaks)) (a .limit - (l .made + 1)) (l .made + 1)) (c .light-known .ensures ∙ e) ∙ sym (h .1) ∙ l .inv .0, omega (arith, h .0), l .inv .2)
+    (ap (stretch (now (a .breaks)) (a .limit .0 - (l .made + 1)) (l .made + 1)) (c .light-known .ensures ∙ e) ∙ sym (h .1) ∙ l .inv .0, omega (arith, h .0), l .inv .2)
 
 pub light-stretch-spec : {M : Type 1} → statement M
 light-stretch-spec =

@@ -21,6 +21,9 @@ count-instruction-requires c κs = search needs
 cast-wrapping-add-u64 : tie.Need-cast-wrapping-add-u64
 cast-wrapping-add-u64 c = search needs
 
+cast-wrapping-add-u64-2 : tie.Need-cast-wrapping-add-u64-2
+cast-wrapping-add-u64-2 c = search needs
+
 add-wrapping-add-u64 : tie.Need-add-wrapping-add-u64
 add-wrapping-add-u64 c = search needs
 
@@ -80,6 +83,7 @@ count-whole-spec =
     counted-requires
     count-instruction-requires
     cast-wrapping-add-u64
+    cast-wrapping-add-u64-2
     add-wrapping-add-u64
     wrapping-add-u64-requires
     wrapping-add-u64-requires-2

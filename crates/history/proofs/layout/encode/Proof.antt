@@ -13,8 +13,8 @@ sixteen c = search needs
 many : (c : tie.Start) → length (c .args .snapshot .memory) ≡ 256
 many c = search needs
 
-fault-code-requires : tie.Need-fault-code-requires
-fault-code-requires c κs = search needs
+code-requires : tie.Need-code-requires
+code-requires c κs = search needs
 
 slice-aggregate-put-front : tie.Need-slice-aggregate-put-front
 slice-aggregate-put-front c = search needs
@@ -52,14 +52,14 @@ returns c =
     let t = r .before .before .before .before in
     let f = t .before .before .before in
     let s = f .before .before .before .before .before in
-    rw (p .put-memory .ensures, q .put-counts .ensures, r .put-state .ensures, t .put-front .ensures, f .fault-code .ensures)
+    rw (p .put-memory .ensures, q .put-counts .ensures, r .put-state .ensures, t .put-front .ensures, f .code .ensures)
     (record-over (s .args .snapshot) (s .args .part .now) (sixteen s) (many s) (s .pre))
 
 pub encode-spec : {M : Type 1} → statement M
 encode-spec =
     tie.close
     (tie.spec
-    fault-code-requires
+    code-requires
     slice-aggregate-put-front
     put-front-requires
     put-state-requires

@@ -36,8 +36,8 @@ returns c =
     let a = s .args in
     rw (p .put-number4 .ensures, q .put-number3 .ensures, r .put-number2 .ensures, t .put-number .ensures)
     (writtens-eq (a .out .now) 0
-    ((1, bigEndian 1 1) ∷ (2, bigEndian 2 (a .len)) ∷ (8, bigEndian 8 (a .budget)) ∷ (2, bigEndian 2 (a .count)) ∷ [])
-    (length-bigEndian 1 1, (length-bigEndian 2 (a .len), (length-bigEndian 8 (a .budget), (length-bigEndian 2 (a .count), tt))))
+    ((1, bigEndian 1 1) ∷ (2, bigEndian 2 (a .len)) ∷ (8, bigEndian 8 (a .budget .0)) ∷ (2, bigEndian 2 (a .count)) ∷ [])
+    (length-bigEndian 1 1, (length-bigEndian 2 (a .len), (length-bigEndian 8 (a .budget .0), (length-bigEndian 2 (a .count), tt))))
     (omega (arith, s .pre)))
 
 pub put-head-spec : {M : Type 1} → statement M

@@ -1,9 +1,14 @@
 -- `put_text` meets its contract, by the mark.
 -- Assumes nothing.
+use mathlib.Core.Path.{sym, _∙_}
+use borrow.Author.Tests.{not-true, not-false}
 use Rattle.report.proofs.Shows.{text-open, text-marked}
 use borrow.Author.Needs.{needs}
 use Rattle.report.proofs.records.put_text.Statement.{statement}
 use Rattle.report.proofs.records.put_text.Tie as tie
+
+hides-requires : tie.Need-hides-requires
+hides-requires c κs = search needs
 
 disassemble-into-requires : tie.Need-disassemble-into-requires
 disassemble-into-requires c κs = search needs
@@ -14,8 +19,9 @@ same-length c = search needs
 returns : tie.Need-returns
 returns c =
     let p = c .before .before in
-    let s = p .before .before .before .before in
-    text-open (s .args .out .now) (s .args .at) (s .args .mark) (s .args .word) (s .pre) (p .before .before .if1 .taken) (p .disassemble-into .ensures .1)
+    let h = p .before .before .before in
+    let s = h .before .before in
+    text-open (s .args .out .now) (s .args .at) (s .args .mark) (s .args .word) (s .pre) (sym (h .hides .ensures) ∙ not-true _ (p .before .before .if1 .taken)) (p .disassemble-into .ensures .1)
 
 slice-aggregate-put-bytes : tie.Need-slice-aggregate-put-bytes
 slice-aggregate-put-bytes c = search needs
@@ -29,13 +35,15 @@ same-length-2 c = search needs
 returns-2 : tie.Need-returns-2
 returns-2 c =
     let p = c .before .before in
-    let s = p .before .before .before .before .before in
-    text-marked (s .args .out .now) (s .args .at) (s .args .mark) (s .args .word) (s .pre) (p .before .before .before .if1 .left) (p .put-bytes .ensures)
+    let h = p .before .before .before .before in
+    let s = h .before .before in
+    text-marked (s .args .out .now) (s .args .at) (s .args .mark) (s .args .word) (s .pre) (sym (h .hides .ensures) ∙ not-false _ (p .before .before .before .if1 .left)) (p .put-bytes .ensures)
 
 pub put-text-spec : {M : Type 1} → statement M
 put-text-spec =
     tie.close
     (tie.spec
+    hides-requires
     disassemble-into-requires
     same-length
     returns

@@ -38,8 +38,8 @@ returns c =
     let breaks = now (a .breakpoints) in
     rw (p .put-list .ensures, q .put-starts .ensures, r .put-head .ensures)
     (overs-eq (now (a .out)) 0
-    ((13, headRecord (length image) (a .budget) (length breaks)) ∷ (9472, startRecords marked (imageWords image) (now (a .marks))) ∷ (2 * length breaks, byteRecords 3 breaks) ∷ [])
-    (length-head (length image) (a .budget) (length breaks), (length-starts marked (imageWords image) (now (a .marks)), (length-bytes 3 breaks, tt)))
+    ((13, headRecord (length image) (a .budget .0) (length breaks)) ∷ (9472, startRecords marked (imageWords image) (now (a .marks))) ∷ (2 * length breaks, byteRecords 3 breaks) ∷ [])
+    (length-head (length image) (a .budget .0) (length breaks), (length-starts marked (imageWords image) (now (a .marks)), (length-bytes 3 breaks, tt)))
     (omega (arith, s .pre)))
 
 pub put-input-spec : {M : Type 1} → statement M

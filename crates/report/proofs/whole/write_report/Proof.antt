@@ -4,7 +4,7 @@ use mathlib.Core.Path.{_≡_, _∙_}
 use native.Mathlib.Omega.{arith}
 use denote.Ref.{now}
 use lib.ListN.{length}
-use Rattle.report.specs.Slots.{inputFrom}
+use Rattle.guard.specs.Input.{inputFrom}
 use Rattle.trace.specs.Trace.{columnsLength}
 use Rattle.report.proofs.Wholes.{whole-served}
 use borrow.Author.Needs.{needs}
@@ -41,7 +41,7 @@ returns c =
     let q = p .before .before .before .before in
     let s = q .before .before .before .before .before .before .before .before .before in
     let a = s .args in
-    whole-served (inputFrom (now (a .image)) (now (a .marks)) (a .budget) (now (a .breakpoints))) (a .stop) (a .machine) (s .pre .5) (now (a .register-marks)) (now (a .memory-marks)) (a .mark) (now (a .out))
+    whole-served (inputFrom (now (a .image)) (now (a .marks)) (a .budget .0) (now (a .breakpoints))) (a .stop) (a .machine) (s .pre .5) (now (a .register-marks)) (now (a .memory-marks)) (a .mark) (now (a .out))
     (columns s) (touched s) (omega (arith, s .pre .0, s .pre .2)) (p .put-run .ensures .0)
     (p .put-run .ensures .1 ∙ rw (q .put-input .ensures, q .before .before .number .ensures))
 

@@ -1,9 +1,7 @@
 -- Assumes nothing.
-use mathlib.Core.Path.{sym, ap, _∙_}
-use borrow.Author.Tests.{eq-eqb, ne-eqb}
+use mathlib.Core.Path.{sym, _∙_}
 use Rattle.isa.specs.Word.{decodeWord}
 use Rattle.isa.proofs.Words.{read-off}
-use Rattle.plan.specs.Plan.{executeTicks}
 use Rattle.tick.proofs.Ticks.{decoded-tick}
 use borrow.Author.Needs.{needs}
 use Rattle.tick.proofs.execute.decode_tick.Statement.{statement}
@@ -21,11 +19,11 @@ opcode-requires c κs = search needs
 execute-tick-count-requires : tie.Need-execute-tick-count-requires
 execute-tick-count-requires c κs = search needs
 
+enum-known-decoded : tie.Need-enum-known-decoded
+enum-known-decoded c = search needs
+
 enum-told : tie.Need-enum-told
 enum-told c = search needs
-
-enum-told-2 : tie.Need-enum-told-2
-enum-told-2 c = search needs
 
 faulted-requires : tie.Need-faulted-requires
 faulted-requires c κs = search needs
@@ -38,22 +36,24 @@ returns c =
     let w = i .before in
     let s = w .before .before .args .s in
     decoded-tick s (read-off decodeWord (s .control .ir) (i .from-word .ensures) (o .opcode .ensures)) (w .wrapping-add-u8 .ensures) (n .execute-tick-count .ensures)
-    (rw (c .before .enum-told2 .given .1) (c .faulted .ensures))
+    (rw (c .before .enum-told .given .1) (c .faulted .ensures))
+
+is-halt-requires : tie.Need-is-halt-requires
+is-halt-requires c κs = search needs
 
 halting-requires : tie.Need-halting-requires
 halting-requires c κs = search needs
 
 returns-2 : tie.Need-returns-2
 returns-2 c =
-    let n = c .before .before .before .before in
+    let n = c .before .before .before .before .before .before in
     let o = n .before in
     let i = o .before in
     let w = i .before in
     let s = w .before .before .args .s in
-    let k = c .before .before .enum-told .given .1 in
-    let z = sym (ap executeTicks k) ∙ sym (n .execute-tick-count .ensures) ∙ c .before .if1 .taken in
+    let k = c .before .before .before .before .decoded .given .1 in
     decoded-tick s (read-off decodeWord (s .control .ir) (i .from-word .ensures) (o .opcode .ensures)) (w .wrapping-add-u8 .ensures) (n .execute-tick-count .ensures)
-    (rw k (simp (eq-eqb _ _ z) (c .halting .ensures)))
+    (rw (k, sym (c .before .before .is-halt .ensures) ∙ c .before .if1 .taken) (c .halting .ensures))
 
 with-control-requires : tie.Need-with-control-requires
 with-control-requires c κs = search needs
@@ -63,14 +63,14 @@ quiet-requires c κs = search needs
 
 returns-3 : tie.Need-returns-3
 returns-3 c =
-    let n = c .before .before .before .before .before in
+    let n = c .before .before .before .before .before .before .before in
     let o = n .before in
     let i = o .before in
     let w = i .before in
     let s = w .before .before .args .s in
-    let k = c .before .before .before .enum-told .given .1 in
+    let k = c .before .before .before .before .before .decoded .given .1 in
     decoded-tick s (read-off decodeWord (s .control .ir) (i .from-word .ensures) (o .opcode .ensures)) (w .wrapping-add-u8 .ensures) (n .execute-tick-count .ensures)
-    (rw k (simp (ne-eqb _ _ (λ z. c .before .before .if1 .left (n .execute-tick-count .ensures ∙ ap executeTicks k ∙ z))) (rw (c .before .with-control .ensures) at (c .quiet .ensures))))
+    (rw (k, sym (c .before .before .before .is-halt .ensures) ∙ c .before .before .if1 .left) (rw (c .before .with-control .ensures) at (c .quiet .ensures)))
 
 pub decode-tick-spec : {M : Type 1} → statement M
 decode-tick-spec =
@@ -80,10 +80,11 @@ decode-tick-spec =
     from-word-requires
     opcode-requires
     execute-tick-count-requires
+    enum-known-decoded
     enum-told
-    enum-told-2
     faulted-requires
     returns
+    is-halt-requires
     halting-requires
     returns-2
     with-control-requires

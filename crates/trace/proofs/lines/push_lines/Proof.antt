@@ -32,8 +32,8 @@ wrapping-add-u64-requires c κs = search needs
 tick-text-requires : tie.Need-tick-text-requires Inv-loop μ-loop
 tick-text-requires c κs = search needs
 
-phase-number-requires : tie.Need-phase-number-requires Inv-loop μ-loop
-phase-number-requires c κs = search needs
+tick-phase-requires : tie.Need-tick-phase-requires Inv-loop μ-loop
+tick-phase-requires c κs = search needs
 
 push-trace-requires : tie.Need-push-trace-requires Inv-loop μ-loop
 push-trace-requires c κs = search needs
@@ -50,7 +50,7 @@ loop-again c =
     let l = c .before .before .before .before .before .before .before .before .loop in
     let t = l .tick in
     let h : t < a .n = c .before .before .before .before .before .before .before .loop-test .taken in
-    let p = c .before .before .before .before .phase-number in
+    let p = c .before .before .before .before .tick-phase in
     let x = c .before .before .before .before .before .tick-text in
     let m : c .before .before .before .before .before .before .wrapping-add-u64 .result ≡ more (t + 1) (a .before) = more-next t (a .before) (c .before .before .before .before .before .before .wrapping-add-u64 .ensures) (l .inv .1) in
     let old = arraysOf (l .q) (l .columns) (l .numbers) (l .lengths) in (
@@ -77,7 +77,7 @@ push-lines-spec =
     loop-holds
     wrapping-add-u64-requires
     tick-text-requires
-    phase-number-requires
+    tick-phase-requires
     push-trace-requires
     add-tick
     loop-less

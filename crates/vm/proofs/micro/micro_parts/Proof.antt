@@ -4,7 +4,7 @@ use denote.Ref.{now}
 use Rattle.vm.specs.Machine.{microStep}
 use Rattle.vm.specs.Instruction.{Steps}
 use Rattle.vm.specs.View.{parts, view}
-use Rattle.vm.specs.Calls.{haltedOp, microOp, microOutcome}
+use Rattle.vm.specs.Calls.{noOp, haltedOp, microOp, microOutcome}
 use Rattle.vm.proofs.Newest.{one-step}
 use Rattle.vm.proofs.Fits.{fit, lasts, has-one, first-text, made-op, served-ok, refuses, stays, moves}
 use borrow.Author.Needs.{needs}
@@ -17,19 +17,22 @@ halted-op-requires c κs = search needs
 step-refusal-requires : tie.Need-step-refusal-requires
 step-refusal-requires c κs = let z = (c .before .before .before .before) .pre in (z .touched, z .lengths, z .bytes)
 
+no-op-requires : tie.Need-no-op-requires
+no-op-requires c κs = search needs
+
 returns : tie.Need-returns
 unfolding microOutcome
 returns c =
-    let a = (c .before .before .before .before .before .before) .args in
+    let a = (c .before .before .before .before .before .before .before) .args in
     let v = view (parts (a .core) (now (a .memory)) (now (a .registers)) (now (a .touched)) (now (a .columns)) (now (a .numbers)) (now (a .lengths))) in
-    (refuses _ _ (v .state .control .halted) _ (haltedOp (v .state)) (microOp v) v (microStep v) ((c .before) .step-refusal .ensures) (c .if1 .taken), λ _. refl, λ t. t)
+    (refuses _ _ (v .state .control .halted) _ noOp (haltedOp (v .state)) (microOp v) v (microStep v) ((c .before .before) .step-refusal .ensures) (c .before .if1 .taken) (c .no-op .ensures), λ _. refl, λ t. t)
 
 returns-2 : tie.Need-returns-2
 unfolding microOutcome
 returns-2 c =
     let a = (c .before .before .before .before .before .before .before) .args in
     let v = view (parts (a .core) (now (a .memory)) (now (a .registers)) (now (a .touched)) (now (a .columns)) (now (a .numbers)) (now (a .lengths))) in
-    (stays _ _ (v .state .control .halted) _ (haltedOp (v .state)) (microOp v) v (microStep v) ((c .before .before) .step-refusal .ensures) ((c .before) .if1 .left) (c .if2 .taken) ((c .before .before .before .before .before) .halted-op .ensures), λ _. refl, λ t. t)
+    (stays _ _ (v .state .control .halted) _ noOp (haltedOp (v .state)) (microOp v) v (microStep v) ((c .before .before) .step-refusal .ensures) ((c .before) .if1 .left) (c .if2 .taken) ((c .before .before .before .before .before) .halted-op .ensures), λ _. refl, λ t. t)
 
 instruction-parts-requires : tie.Need-instruction-parts-requires
 instruction-parts-requires c κs =
@@ -65,7 +68,7 @@ returns-3 c =
     let f = fit p (a .size) ok (s .pre) in
     let e = t .ensures .0 ∙ one-step v in
     let x = (c .before) .newest-text .ensures ∙ first-text (t .result .ticks .0) p (t .result .done) f (t .ensures .1) (t .ensures .0) in
-    (moves _ _ (v .state .control .halted) _ (haltedOp (v .state)) (microOp v) v (microStep v) r z ((c .before .before .before .before .before .before .before .before .before .before .before .before .before .before) .if2 .left) (c .op-after .ensures ∙ made-op v e x) (ap (λ (y : Steps). y .machine) e), λ n. absurd (n z), λ k. lasts p _ (a .size) k (t .ensures .1))
+    (moves _ _ (v .state .control .halted) _ noOp (haltedOp (v .state)) (microOp v) v (microStep v) r z ((c .before .before .before .before .before .before .before .before .before .before .before .before .before .before) .if2 .left) (c .op-after .ensures ∙ made-op v e x) (ap (λ (y : Steps). y .machine) e), λ n. absurd (n z), λ k. lasts p _ (a .size) k (t .ensures .1))
 
 pub micro-parts-spec : {M : Type 1} → statement M
 micro-parts-spec =
@@ -73,6 +76,7 @@ micro-parts-spec =
     (tie.spec
     halted-op-requires
     step-refusal-requires
+    no-op-requires
     returns
     returns-2
     instruction-parts-requires

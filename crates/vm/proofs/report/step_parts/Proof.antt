@@ -3,7 +3,7 @@ use mathlib.Core.Path.{refl, ap, _∙_}
 use denote.Ref.{now}
 use Rattle.vm.specs.Instruction.{Steps, stepInstruction, textsFrom}
 use Rattle.vm.specs.View.{parts, view}
-use Rattle.vm.specs.Calls.{haltedReport, instructionReport, stepOutcome}
+use Rattle.vm.specs.Calls.{noReport, haltedReport, instructionReport, stepOutcome}
 use Rattle.vm.proofs.Fits.{fit, lasts, texts-made, ticks-few, still-report, made-report, served-ok, refuses, stays, moves}
 use borrow.Author.Needs.{needs}
 use Rattle.vm.proofs.report.step_parts.Statement.{statement}
@@ -30,19 +30,22 @@ has-fault-requires c κs = search needs
 step-refusal-requires : tie.Need-step-refusal-requires
 step-refusal-requires c κs = let z = (c .before .before .before .before .before .before .before) .pre in (z .touched, z .lengths, z .bytes)
 
+no-report-requires : tie.Need-no-report-requires
+no-report-requires c κs = search needs
+
 returns : tie.Need-returns
 unfolding stepOutcome
 returns c =
-    let a = (c .before .before .before .before .before .before .before .before .before) .args in
+    let a = (c .before .before .before .before .before .before .before .before .before .before) .args in
     let v = view (parts (a .core) (now (a .memory)) (now (a .registers)) (now (a .touched)) (now (a .columns)) (now (a .numbers)) (now (a .lengths))) in
-    (refuses _ _ (v .state .control .halted) _ (haltedReport v) (instructionReport v) v (stepInstruction v .machine) ((c .before) .step-refusal .ensures) (c .if1 .taken), λ _. refl, λ t. t)
+    (refuses _ _ (v .state .control .halted) _ noReport (haltedReport v) (instructionReport v) v (stepInstruction v .machine) ((c .before .before) .step-refusal .ensures) (c .before .if1 .taken) (c .no-report .ensures), λ _. refl, λ t. t)
 
 returns-2 : tie.Need-returns-2
 unfolding stepOutcome
 returns-2 c =
     let a = (c .before .before .before .before .before .before .before .before .before .before) .args in
     let v = view (parts (a .core) (now (a .memory)) (now (a .registers)) (now (a .touched)) (now (a .columns)) (now (a .numbers)) (now (a .lengths))) in
-    (stays _ _ (v .state .control .halted) _ (haltedReport v) (instructionReport v) v (stepInstruction v .machine) ((c .before .before) .step-refusal .ensures) ((c .before) .if1 .left) (c .if2 .taken) (still-report v ((c .before .before .before .before .before .before .before) .disassemble .ensures) ((c .before .before .before .before .before .before) .halted-texts .ensures) ((c .before .before .before .before .before) .has-fault .ensures)), λ _. refl, λ t. t)
+    (stays _ _ (v .state .control .halted) _ noReport (haltedReport v) (instructionReport v) v (stepInstruction v .machine) ((c .before .before) .step-refusal .ensures) ((c .before) .if1 .left) (c .if2 .taken) (still-report v ((c .before .before .before .before .before .before .before) .disassemble .ensures) ((c .before .before .before .before .before .before) .halted-texts .ensures) ((c .before .before .before .before .before) .has-fault .ensures)), λ _. refl, λ t. t)
 
 next-parts-requires : tie.Need-next-parts-requires
 next-parts-requires c κs =
@@ -76,7 +79,7 @@ returns-3 c =
     let ok = served-ok p (a .size) _ r z in
     let f = fit p (a .size) ok (s .pre) in
     let x = c .newest-texts .ensures ∙ ap textsFrom (texts-made 7 (t .result .ticks .0) p (t .result .done) (omega arith) f (t .ensures .fit) (t .ensures .steps)) in
-    (moves _ _ (v .state .control .halted) _ (haltedReport v) (instructionReport v) v (stepInstruction v .machine) r z ((c .before .before .before .before .before .before .before .before .before .before .before .before) .if2 .left) (made-report v (t .ensures .steps) (t .ensures .halted) ((c .before .before .before .before .before .before .before .before .before .before .before .before .before .before .before .before .before .before .before) .disassemble .ensures) x) (ap (λ (y : Steps). y .machine) (t .ensures .steps)), λ n. absurd (n z), λ k. lasts p _ (a .size) k (t .ensures .fit))
+    (moves _ _ (v .state .control .halted) _ noReport (haltedReport v) (instructionReport v) v (stepInstruction v .machine) r z ((c .before .before .before .before .before .before .before .before .before .before .before .before) .if2 .left) (made-report v (t .ensures .steps) (t .ensures .halted) ((c .before .before .before .before .before .before .before .before .before .before .before .before .before .before .before .before .before .before .before) .disassemble .ensures) x) (ap (λ (y : Steps). y .machine) (t .ensures .steps)), λ n. absurd (n z), λ k. lasts p _ (a .size) k (t .ensures .fit))
 
 pub step-parts-spec : {M : Type 1} → statement M
 step-parts-spec =
@@ -89,6 +92,7 @@ step-parts-spec =
     halted-texts-requires
     has-fault-requires
     step-refusal-requires
+    no-report-requires
     returns
     returns-2
     next-parts-requires

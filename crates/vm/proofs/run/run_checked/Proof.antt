@@ -2,7 +2,6 @@ use mathlib.Core.Path.{refl, sym, _∙_}
 use denote.Ref.{now}
 use borrow.Author.Tests.{not-true, not-false}
 use Rattle.vm.specs.View.{parts, view}
-use Rattle.control.proofs.Lawfuls.{true-false}
 use Rattle.vm.proofs.Fits.{fit, lasts, run-refused, run-halted, run-served}
 use Rattle.vm.proofs.run.run_checked.Statement.{statement}
 use Rattle.vm.proofs.run.run_checked.Tie as tie
@@ -34,7 +33,7 @@ returns-3 c =
     let a = (c .before .before .before .before .before .before .before .before .before .before .before .before .before) .args in
     let g = sym ((c .before .before .before .before .before .before .before .before .before) .parts-ok .ensures) ∙ not-false _ ((c .before .before .before .before .before .before .before .before) .if1 .left) in
     let r = c .run-parts .ensures in
-    (r .0 ∙ run-served (now (a .breakpoints)) (a .budget .0) (view (parts (a .core) (now (a .memory)) (now (a .registers)) (now (a .touched)) (now (a .columns)) (now (a .numbers)) (now (a .lengths)))) _ g ((c .before .before .before .before .before .before .before) .if2 .left), λ f. absurd (true-false (sym g ∙ f)), λ t. lasts (parts (a .core) (now (a .memory)) (now (a .registers)) (now (a .touched)) (now (a .columns)) (now (a .numbers)) (now (a .lengths))) _ (a .size) t (r .1))
+    (r .0 ∙ run-served (now (a .breakpoints)) (a .budget .0) (view (parts (a .core) (now (a .memory)) (now (a .registers)) (now (a .touched)) (now (a .columns)) (now (a .numbers)) (now (a .lengths)))) _ g ((c .before .before .before .before .before .before .before) .if2 .left), r .1, λ t. lasts (parts (a .core) (now (a .memory)) (now (a .registers)) (now (a .touched)) (now (a .columns)) (now (a .numbers)) (now (a .lengths))) _ (a .size) t (r .2))
 
 pub run-checked-spec : {M : Type 1} → statement M
 run-checked-spec =

@@ -7,7 +7,7 @@ use denote.Ref.{now}
 use borrow.Author.Needs.{needs}
 use Rattle.guard.specs.Stops.{stop, go, runVerdictOf}
 use Rattle.vm.specs.Run.{verdict, run}
-use Rattle.vm.specs.View.{parts, view, Fit}
+use Rattle.vm.specs.View.{parts, view, Fit, stoppedParts}
 use Rattle.vm.proofs.Runs.{run-stops, run-goes, running, stopped-view, stopped-fit}
 use Rattle.vm.proofs.run.run_parts.Statement.{statement}
 use Rattle.vm.proofs.run.run_parts.Tie as tie
@@ -18,6 +18,7 @@ Inv-loop breakpoints memory₀ registers₀ touched₀ columns₀ numbers₀ len
     × (begun ≤ limit)
     × (limit < 18446744073709551616)
     × Fit (parts s memory registers touched columns numbers lengths)
+    × (begun ≡ 0 → parts s memory registers touched columns numbers lengths ≡ parts s₀ memory₀ registers₀ touched₀ columns₀ numbers₀ lengths₀)
 
 abbrev μ-loop : tie.MeasureT-loop
 μ-loop breakpoints memory₀ registers₀ touched₀ columns₀ numbers₀ lengths₀ marks₀ register-marks₀ s₀ limit begun₀ memory registers touched columns numbers lengths marks register-marks s begun = limit - begun
@@ -26,7 +27,7 @@ loop-holds : tie.Need-loop-holds Inv-loop μ-loop
 loop-holds c =
     let a = c .before .args in
     let z : a .budget .0 - 0 ≡ a .budget .0 = omega arith in
-    (ap (λ (j : ℕ). run (now (a .breakpoints)) 0 j (view (parts (a .from) (now (a .memory)) (now (a .registers)) (now (a .touched)) (now (a .columns)) (now (a .numbers)) (now (a .lengths))))) z, omega arith, search needs, c .before .pre)
+    (ap (λ (j : ℕ). run (now (a .breakpoints)) 0 j (view (parts (a .from) (now (a .memory)) (now (a .registers)) (now (a .touched)) (now (a .columns)) (now (a .numbers)) (now (a .lengths))))) z, omega arith, search needs, c .before .pre, λ _. refl)
 
 run-verdict-requires : tie.Need-run-verdict-requires Inv-loop μ-loop
 run-verdict-requires c κs = search needs
@@ -52,6 +53,7 @@ returns c =
           ∙ (λ i. record { stop = x; executed = l .begun; machine = stopped-view x q i })
           ∙ sym (run-stops b (l .begun) n (view q) x e)
           ∙ l .inv .0,
+      λ o. (λ i. parts (z i) (l .memory) (l .registers) (l .touched) (l .columns) (l .numbers) (l .lengths)) ∙ ap (stoppedParts x) (l .inv .4 o),
       rw z (stopped-fit x q (l .inv .3)),
     )
 
@@ -105,6 +107,7 @@ loop-again c =
       omega (arith, h, f .within),
       l .inv .2,
       f .fits _ _ _ (t .ensures .fit),
+      λ o. absurd (omega (arith, o)),
     )
 
 pub run-parts-spec : {M : Type 1} → statement M

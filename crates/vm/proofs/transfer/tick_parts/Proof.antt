@@ -24,8 +24,8 @@ read-operands-requires c κs = search needs
 tick-text-requires : tie.Need-tick-text-requires
 tick-text-requires c κs = search needs
 
-phase-number-requires : tie.Need-phase-number-requires
-phase-number-requires c κs = search needs
+tick-phase-requires : tie.Need-tick-phase-requires
+tick-phase-requires c κs = search needs
 
 tick-of-requires : tie.Need-tick-of-requires
 tick-of-requires c κs = search needs
@@ -53,7 +53,7 @@ returns c =
     let s = (c .before .before .before .before .before .before .before .before .before .before .before .before .before .before .before .before .before .before .before .before .before) in let a = s .args in
     let o = (c .before .before .before .before .before .before .before .before .before .before .before .before .before .before .before .before .before) .read-operands in
     let x = (c .before .before .before .before .before .before .before .before .before .before .before .before .before .before .before) .tick-text in
-    let h = (c .before .before .before .before .before .before .before .before .before .before .before .before .before .before) .phase-number in
+    let h = (c .before .before .before .before .before .before .before .before .before .before .before .before .before .before) .tick-phase in
     let t = (c .before .before .before .before .before .before .before .before .before .before .before .before .before) .tick-of in
     let k = (c .before .before .before .before .before .before .before .before .before .before .before) .count-tick in
     let w = (c .before .before .before .before .before .before .before .before .before) .set-register in
@@ -80,7 +80,7 @@ tick-parts-spec =
     (tie.spec
     read-operands-requires
     tick-text-requires
-    phase-number-requires
+    tick-phase-requires
     tick-of-requires
     count-tick-requires
     set-register-requires

@@ -6,7 +6,7 @@ use mir.Val.{Fits}
 use mir.Syntax.{w8}
 use Rattle.trace.specs.Trace.{columnsLength}
 use Rattle.vm.specs.Refusal.{Sizes}
-use Rattle.vm.specs.Calls.{partsOf}
+use Rattle.vm.specs.Calls.{partsOf, microAnswer}
 use Rattle.vm.proofs.Fits.{withParts}
 use Rattle.vm.proofs.machine.Machine.micro_step.Statement.{statement}
 use Rattle.vm.proofs.machine.Machine.micro_step.Tie as tie
@@ -28,7 +28,7 @@ returns : tie.Need-returns
 returns c =
     let m = (c .before .before .before .before .before .before .before .before .before .before .before .before .before .before .before .before .before .before .before .before) .args .self in
     let r = (c .before .before .before .before .before) .micro-parts .ensures in
-    (r .0, (refl, (λ e. ap (withParts m) (r .1 e), r .2)))
+    (ap microAnswer (r .0), (refl, (λ e. ap (withParts m) (r .1 e), r .2)))
 
 pub micro-step-spec : {M : Type 1} → statement M
 micro-step-spec = tie.close (tie.spec micro-parts-requires returns)

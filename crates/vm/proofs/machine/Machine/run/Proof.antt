@@ -6,7 +6,7 @@ use Prim.Native.Nat.{ℕ}
 use mathlib.Core.Path.{_≡_, refl, ap}
 use Rattle.trace.specs.Trace.{columnsLength}
 use Rattle.vm.specs.Refusal.{Sizes}
-use Rattle.vm.specs.Calls.{partsOf}
+use Rattle.vm.specs.Calls.{partsOf, runAnswer}
 use Rattle.vm.proofs.Fits.{withParts}
 use Rattle.vm.proofs.machine.Machine.run.Statement.{statement}
 use Rattle.vm.proofs.machine.Machine.run.Tie as tie
@@ -28,7 +28,7 @@ returns : tie.Need-returns
 returns c =
     let m = (c .before .before .before .before .before .before .before .before .before .before .before .before .before .before .before .before .before .before .before .before .before) .args .self in
     let r = (c .before .before .before .before .before) .run-checked .ensures in
-    (r .0, (refl, (λ e. ap (withParts m) (r .1 e), r .2)))
+    (ap runAnswer (r .0), (refl, (λ e. ap (withParts m) (r .1 e), r .2)))
 
 pub run-spec : {M : Type 1} → statement M
 run-spec = tie.close (tie.spec run-checked-requires returns)

@@ -1,0 +1,100 @@
+//! What the calls are given. All of it is invented; a hidden word has a value
+//! that is known again wherever it shows.
+
+use oracle::example_reports::{example_11, longest_hidden_report};
+use oracle::guarded::{Input, BREAKPOINTS};
+use oracle::random::Random;
+use oracle::report_bytes::LONGEST;
+use oracle::report_program::bytes;
+use oracle::report_sample::invented;
+use oracle::{images, refused_reports};
+
+/// The bytes of a text.
+pub const TEXT: usize = 32;
+/// The most words of an image.
+const WORDS: usize = 256;
+/// Enough for every listing.
+const LISTING: usize = 11_709;
+
+/// Inputs with hidden words, from the shortest to the longest that is served.
+pub fn reports() -> Vec<(&'static str, Input)> {
+    vec![
+        ("example 11", example_11()),
+        ("the sample", invented()),
+        ("the longest hidden", longest_hidden_report()),
+        ("a loop over hidden words", looping()),
+        ("all hidden", all_hidden()),
+    ]
+}
+
+/// The words that are marked.
+pub fn hidden(input: &Input) -> Vec<u16> {
+    let marked = input.image.iter().zip(&input.marks);
+    marked
+        .filter(|(_, mark)| **mark == 1)
+        .map(|(word, _)| *word)
+        .collect()
+}
+
+/// The upper half is hidden; two words of it are added and stored again and
+/// again. No breakpoint is met.
+fn looping() -> Input {
+    let mut image = vec![0x3180, 0x3281, 0x6312, 0x43FF, 0x4440, 0xD000];
+    image.resize(WORDS / 2, 0x1234);
+    image.extend((0x80..WORDS as u16).map(|at| 0x5E00 | at));
+    Input {
+        image,
+        marks: (0..WORDS).map(|at| u8::from(at >= WORDS / 2)).collect(),
+        budget: 1_000,
+        breakpoints: vec![0x7F; BREAKPOINTS],
+    }
+}
+
+/// The run stops before its first instruction. Each value stands twice: no low
+/// byte is 00 or 01, which a report has as a mark behind an index.
+fn all_hidden() -> Input {
+    Input {
+        image: (0..WORDS as u16).map(|at| 0x5F80 | at).collect(),
+        marks: vec![1; WORDS],
+        budget: 9,
+        breakpoints: Vec::new(),
+    }
+}
+
+/// Refused inputs, with the number that is due and the output's length.
+pub fn refused_reports() -> Vec<(i64, Vec<u8>, usize)> {
+    let offending = |choice| bytes(&refused_reports::offending(choice));
+    let whole = bytes(&looping());
+    let longer = [&whole[..], &[0]].concat();
+    let far_longer = [&whole[..], &vec![0; LONGEST]].concat();
+    vec![
+        (1, offending(1), LONGEST),
+        (2, offending(2), LONGEST),
+        (3, offending(4), LONGEST),
+        (4, offending(8), LONGEST),
+        (5, whole.clone(), LONGEST - 1),
+        (6, whole[..whole.len() - 1].to_vec(), LONGEST),
+        (6, longer, LONGEST),
+        (6, far_longer, LONGEST),
+    ]
+}
+
+/// Images whose listings are short and long, with labels on their own words.
+pub fn images() -> Vec<Vec<u16>> {
+    let mut random = Random::new(0x0E_71A9);
+    let mut images: Vec<Vec<u16>> = [1, 2, 17, 255, 256]
+        .map(|words| images::dense(&mut random, words))
+        .to_vec();
+    images.push(images::mixed(&mut random, WORDS));
+    images
+}
+
+/// Refused images, with the number that is due and the output's length.
+pub fn refused_listings() -> Vec<(i64, Vec<u8>, usize)> {
+    let mut image = images::bytes(&looping().image);
+    let short = (5, image.clone(), LISTING / 2);
+    image.push(0);
+    let odd = (6, image.clone(), LISTING);
+    image.push(0);
+    vec![short, odd, (1, image, LISTING)]
+}

@@ -1,0 +1,118 @@
+//! A read that fails. The programs do not know what they were not given: the
+//! report and the listing program answer `refused 6`, the call program the byte
+//! FF, and plays nothing, even where what came would be a whole input. Where so
+//! many bytes came that they decide the answer, no more is read.
+
+use crate::run::{command, output, path, same, shell};
+use oracle::commands::Command as Call;
+use oracle::example_reports::longest_report;
+use oracle::report_program::{answer, bytes, refused, DECIDING};
+use oracle::report_sample::invented;
+use oracle::{disasm, images, sample, sample_script, scripts};
+use std::fs::File;
+use std::io::Write;
+use std::os::fd::OwnedFd;
+use std::os::unix::net::UnixStream;
+
+/// Each program, and what it answers where a read fails.
+const PROGRAMS: [(&str, &[u8]); 3] = [
+    ("massey_report", b"refused 6\n"),
+    ("massey_listing", b"refused 6\n"),
+    ("massey_calls", b"\xFF"),
+];
+/// So many bytes decide every answer of the listing program: a word more than an
+/// image may have.
+const LISTING_DECIDING: usize = 514;
+
+/// What a program writes that is given these bytes, and whose next read fails:
+/// nothing more is there, and its end of the line does not wait.
+fn failing_after(name: &str, bytes: &[u8]) -> Vec<u8> {
+    let (mut ours, theirs) = UnixStream::pair().expect("there are sockets");
+    ours.write_all(bytes).expect("a socket takes them");
+    theirs.set_nonblocking(true).expect("it need not wait");
+    let mut command = command(path(name));
+    command.stdin(OwnedFd::from(theirs));
+    let written = output(command);
+    // Closed any earlier, the bytes would have an end.
+    drop(ours);
+    written
+}
+
+#[test]
+fn standard_input_is_closed() {
+    for (name, due) in PROGRAMS {
+        let written = output(shell("exec \"$0\" <&-", name));
+        same(&written, due, &format!("{name}, closed"));
+    }
+}
+
+#[test]
+fn standard_input_is_a_folder() {
+    for (name, due) in PROGRAMS {
+        let mut command = command(path(name));
+        command.stdin(File::open("/").expect("there is a root"));
+        same(&output(command), due, &format!("{name}, a folder"));
+    }
+}
+
+#[test]
+fn nothing_comes() {
+    for (name, due) in PROGRAMS {
+        same(&failing_after(name, b""), due, &format!("{name}, no bytes"));
+    }
+}
+
+#[test]
+fn a_whole_report_input_comes() {
+    for input in [bytes(&invented()), bytes(&longest_report())] {
+        assert_ne!(answer(&input), refused(6), "it is one by itself");
+        let written = failing_after("massey_report", &input);
+        let what = format!("massey_report, {} bytes", input.len());
+        same(&written, b"refused 6\n", &what);
+    }
+}
+
+/// What came would be refused by another number, had the input ended there; and
+/// with one byte more that number is due.
+#[test]
+fn as_many_bytes_come_as_decide_a_report() {
+    let mut input = vec![0xFF; DECIDING];
+    assert_eq!(answer(&input), refused(1));
+    let decided = failing_after("massey_report", &input);
+    same(&decided, b"refused 1\n", "massey_report, 1,037 bytes");
+    input.pop();
+    let cut = failing_after("massey_report", &input);
+    same(&cut, b"refused 6\n", "massey_report, 1,036 bytes");
+}
+
+#[test]
+fn a_whole_image_comes() {
+    let longest = images::bytes(&[0xE000; 256]);
+    for image in [sample::image(), longest] {
+        let listing = disasm::disassemble_image(&images::whole_words(&image));
+        assert!(!listing.is_empty(), "it is one by itself");
+        let written = failing_after("massey_listing", &image);
+        let what = format!("massey_listing, {} bytes", image.len());
+        same(&written, b"refused 6\n", &what);
+    }
+}
+
+#[test]
+fn as_many_bytes_come_as_decide_a_listing() {
+    for (length, due) in [(LISTING_DECIDING, "refused 1\n"), (513, "refused 6\n")] {
+        let written = failing_after("massey_listing", &vec![0x41; length]);
+        let what = format!("massey_listing, {length} bytes");
+        same(&written, due.as_bytes(), &what);
+    }
+}
+
+#[test]
+fn a_whole_script_comes() {
+    let new = [&0u32.to_be_bytes()[..], &Call::New.bytes()].concat();
+    for script in [new, sample_script::script()] {
+        assert_ne!(scripts::output(&script), b"\xFF", "it is one by itself");
+        let written = failing_after("massey_calls", &script);
+        let what = format!("massey_calls, {} bytes", script.len());
+        same(&written, b"\xFF", &what);
+    }
+}

@@ -1,0 +1,106 @@
+//! `massey_report` and `massey_listing` under `ulimit -s 160`, with the largest
+//! inputs and with such as are refused.
+
+use crate::run::{command, input, output, path, same, shell};
+use oracle::example_reports::{longest_hidden_report, longest_report, marks_at};
+use oracle::guarded::{Input, BREAKPOINTS, LARGEST_BUDGET};
+use oracle::random::Random;
+use oracle::report_bytes::LONGEST;
+use oracle::report_program::{answer, bytes};
+use oracle::{disasm, images, refused_reports};
+
+const WORDS: usize = 256;
+const IN_160_KB: &str = "ulimit -s 160 && exec \"$0\"";
+
+/// Holds the program to what is due, with the usual stack and with the small
+/// one. The kernel moves the stack's start by up to 8 KB from run to run, so a
+/// program that just fits is run a few times.
+fn runs(name: &str, bytes: &[u8], due: &[u8], what: &str) {
+    let mut usual = command(path(name));
+    usual.stdin(input(bytes));
+    same(&output(usual), due, &format!("{name}, {what}"));
+    for _ in 0..16 {
+        let mut small = shell(IN_160_KB, name);
+        small.stdin(input(bytes));
+        same(&output(small), due, &format!("{name} in 160 KB, {what}"));
+    }
+}
+
+/// Loads each of the 256 words and stores it where it was, its own code among
+/// them, round and round: the whole budget is spent, every address is touched
+/// and the trace is full. Invented, with a hidden word at 80.
+fn longest_run() -> Input {
+    let mut image = vec![
+        0x1201, 0x3412, 0x3513, 0x3614, 0x3715, // R2 to R7: 1 and the four words at 12
+        0x3100, 0x4100, // R1 from and to an address
+        0x3305, 0x6332, 0xA334, 0xB335, 0x4305, // the load's next address, FF to 00
+        0x3306, 0x6332, 0xA336, 0xB337, 0x4306, // the store's
+        0xD005, 0x31FF, 0x3100, 0x41FF, 0x4100,
+    ];
+    image.resize(WORDS, 0x5EC7);
+    Input {
+        image,
+        marks: marks_at(&[0x80]),
+        budget: LARGEST_BUDGET,
+        breakpoints: vec![0xFE; BREAKPOINTS],
+    }
+}
+
+#[test]
+fn the_longest_report_of_the_longest_run() {
+    let input = bytes(&longest_run());
+    let due = answer(&input);
+    assert_eq!(due.len(), LONGEST);
+    runs("massey_report", &input, &due, "the longest run");
+}
+
+#[test]
+fn the_longest_reports() {
+    for (name, input) in [
+        ("the longest report", longest_report()),
+        ("the longest hidden report", longest_hidden_report()),
+    ] {
+        let input = bytes(&input);
+        runs("massey_report", &input, &answer(&input), name);
+    }
+}
+
+#[test]
+fn refused_reports() {
+    let whole = bytes(&longest_run());
+    let longer = [&whole[..], &[0; 1_000]].concat();
+    let mut inputs = vec![Vec::new(), whole[..whole.len() - 1].to_vec(), longer];
+    inputs.extend([1, 2, 4, 8, 15].map(|choice| bytes(&refused_reports::offending(choice))));
+    let due: Vec<Vec<u8>> = inputs.iter().map(|input| answer(input)).collect();
+    for number in [1, 2, 3, 4, 6] {
+        let line = format!("refused {number}\n").into_bytes();
+        assert!(due.contains(&line), "no input is refused {number}");
+    }
+    for (input, due) in inputs.iter().zip(&due) {
+        let what = format!("an input of {} bytes", input.len());
+        runs("massey_report", input, due, &what);
+    }
+}
+
+#[test]
+fn the_longest_listings() {
+    let mut random = Random::new(0x57_AC4);
+    let dense = images::dense(&mut random, WORDS);
+    for words in [dense, images::mixed(&mut random, WORDS), Vec::new()] {
+        let due = disasm::disassemble_image(&words).into_bytes();
+        let what = format!("{} words", words.len());
+        runs("massey_listing", &images::bytes(&words), &due, &what);
+    }
+}
+
+#[test]
+fn refused_listings() {
+    for (length, due) in [
+        (513, "refused 6\n"),
+        (514, "refused 1\n"),
+        (4_000, "refused 1\n"),
+    ] {
+        let what = format!("{length} bytes");
+        runs("massey_listing", &vec![0x41; length], due.as_bytes(), &what);
+    }
+}
