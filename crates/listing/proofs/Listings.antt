@@ -13,10 +13,11 @@ use Rattle.isa.specs.declared.text.Text.{Text}
 use Rattle.isa.specs.Text.{text, textOf}
 use Rattle.isa.proofs.Texts.{textOf-text}
 use Rattle.encoding.specs.Bytes.{over, written, eachFrom, numbers, readWords}
+use Rattle.encoding.specs.Answer.{unlessRefused}
 use Rattle.encoding.proofs.Written.{length-over, over-over, written-fits, overs-eq, length-each}
 use Rattle.encoding.proofs.Numbers.{length-numbers}
 use Rattle.listing.specs.declared.Listed.the-variants.{Written, Refused}
-use Rattle.listing.specs.Listing.{lineOf, decimal, wordsText, headStart, headEnd, headLength, headOf, listingOf, listingLength, outcome, unlessRefused, listingOutcome, bytesRefusal, bytesListing, bytesOutcome}
+use Rattle.listing.specs.Listing.{lineOf, decimal, wordsText, headStart, headEnd, headLength, headOf, listingOf, listingLength, outcome, listingOutcome, bytesRefusal, bytesListing, bytesOutcome}
 use Rattle.listing.proofs.Lines.{text-length, length-line-of}
 
 -- ---- the head

@@ -1,6 +1,6 @@
 -- The listing of a program image (01, section 7; disasm.rs, `disassemble_image`): a head, then a line of 45 bytes for each word.
 -- Assumes nothing.
-use Prim.Native.Nat.{ℕ, zero, suc, _+_, _*_, _/_, _%_}
+use Prim.Native.Nat.{ℕ, _+_, _*_, _/_, _%_}
 use Prim.Native.Char.{code}
 use Prim.Native.String.{String}
 use mathlib.Core.Bool.{Bool, true, false, cond}
@@ -15,6 +15,7 @@ use Rattle.isa.specs.Text.{ascii, spaced}
 use Rattle.isa.specs.Word.{byteYZ, decodeWord}
 use Rattle.isa.specs.Format.{fill}
 use Rattle.encoding.specs.Bytes.{over, eachFrom, numbers}
+use Rattle.encoding.specs.Answer.{Told, Outcome, unlessRefused}
 use Rattle.disasm.specs.Disassembly.{template}
 use Rattle.listing.specs.declared.Listed.{Listed}
 use Rattle.listing.specs.declared.Listed.the-variants.{Written, Refused}
@@ -125,27 +126,13 @@ headLength n = cond (eqb n 1) 186 (cond (ltb n 10) 187 (cond (ltb n 100) 188 189
 abbrev pub listingLength : ℕ → ℕ
 listingLength n = headLength n + 45 * n
 
--- what a call answers by 01's number (its last paragraph): that of the refusal, 0 for none, and the listing's length, 0 where refused
-pub record Told : Type 0 where
-  pub refused : ℕ
-  pub length : ℕ
-
+-- what a call answers by 01's number (its last paragraph)
 abbrev pub told : Listed → Told
 told (Written n) = record { refused = 0; length = n }
 told (Refused n) = record { refused = n; length = 0 }
 
--- what a call answers, and the buffer that it leaves
-pub record Outcome : Type 0 where
-  pub answer : Told
-  pub buffer : List ℕ
-
 abbrev pub outcome : Listed → List ℕ → Outcome
 outcome a b = record { answer = told a; buffer = b }
-
--- the number of the refusal and the buffer as it was; where there is none, the second
-abbrev pub unlessRefused : ℕ → List ℕ → Outcome → Outcome
-unlessRefused zero out served = served
-unlessRefused (suc n) out served = outcome (Refused (suc n)) out
 
 -- refused 1: over 256 words; 5: the buffer is shorter than the listing (01, section 1)
 abbrev pub listingRefusal : ℕ → ℕ → ℕ

@@ -2,16 +2,17 @@
 -- Assumes nothing.
 use Prim.Native.Nat.{ℕ, zero, suc, _≤_, _<_}
 use native.Mathlib.Omega.{arith}
-use mathlib.Core.Path.{_≡_, refl, _∙_}
+use mathlib.Core.Path.{_≡_, refl, ap, _∙_}
 use mathlib.Core.List.{List}
 use borrow.Author.Tests.{lt-ltb, le-ltb}
-use lib.IntN.{pos, negℤ, _-ℤ_, +ℤ-idl}
+use lib.IntN.{ℤ, pos, negℤ, _-ℤ_, +ℤ-idl}
 use lib.ListN.{length}
 use mir.Syntax.{w64}
 use mir.Val.{toZ, ofZ, SFits}
 use mir.ValLaws.{toZ-pos, toZ-ofZ}
 use Rattle.isa.specs.Text.{padded}
 use Rattle.encoding.specs.Bytes.{over, written}
+use Rattle.encoding.specs.Answer.{Outcome as Buffered}
 use Rattle.encoding.proofs.Written.{written-fits}
 use Rattle.disasm.specs.Disassembly.{disassembleText}
 use Rattle.disasm.proofs.Texts.{disassembly-short, disassembly-padded}
@@ -43,6 +44,13 @@ number-refused (suc n) = refl
 
 pub refusal-read : {n : ℕ} → n ≤ 255 → toZ w64 (ofZ w64 (pos 0 -ℤ toZ w64 n)) ≡ numberOf n 0
 refusal-read {n} h = toZ-ofZ w64 (pos 0 -ℤ toZ w64 n) (minus-fits h) ∙ minus h ∙ number-refused n
+
+-- a call's outcome with its number in place of what it tells
+pub numbered : {n : ℤ} {a o : Buffered} → n ≡ numberOf (a .answer .refused) (a .answer .length) → a ≡ o
+    → outcome n (a .buffer) ≡ outcome (numberOf (o .answer .refused) (o .answer .length)) (o .buffer)
+numbered e t =
+    let f = e ∙ ap (λ (o : Buffered). numberOf (o .answer .refused) (o .answer .length)) t in
+    λ i. outcome (f i) (t i .buffer)
 
 -- ---- a word's text
 

@@ -7,6 +7,7 @@ use mathlib.Core.Path.{_≡_, refl, sym, ap, _∙_}
 use mathlib.Core.List.{List}
 use borrow.Author.Tests.{lt-ltb}
 use lib.ListN.{length, take}
+use Rattle.encoding.specs.Answer as calls
 use Rattle.encoding.specs.Bytes.{over}
 use Rattle.answer.specs.Line.{refusalLine}
 use Rattle.answer.specs.Answer.{outcome, answerOf, answerOutcome}
@@ -20,26 +21,26 @@ use Rattle.massey_listing.specs.Answer.{programRefusal, programAnswer, p
 -- ---- the call on bytes, by the number n of its refusal
 
 module _ (input out : List ℕ) where
-  abbrev call : ℕ → listing.Outcome
-  call n = listing.unlessRefused n out (listing.outcome (Written (listingLength (length input / 2))) (over out 0 (bytesListing input)))
+  abbrev call : ℕ → calls.Outcome
+  call n = calls.unlessRefused n out (listing.outcome (Written (listingLength (length input / 2))) (over out 0 (bytesListing input)))
 
   served-by : (n : ℕ) {size : ℕ} {left : List ℕ} → bytesRefusal (length input) (length out) ≡ n → listing.outcome (Written size) left ≡ call n
       → outcome size left ≡ answerOutcome (answerOf n (bytesListing input)) out
   served-by zero z e =
       let l = length-bytes input in
-      fitting (bytesListing input) out (omega (arith, bytes-room input out z)) (ap (λ (o : listing.Outcome). o .answer .length) e ∙ sym l) (ap (λ (o : listing.Outcome). o .buffer) e)
+      fitting (bytesListing input) out (omega (arith, bytes-room input out z)) (ap (λ (o : calls.Outcome). o .answer .length) e ∙ sym l) (ap (λ (o : calls.Outcome). o .buffer) e)
   served-by (suc n) z e =
-      let r = ap (λ (o : listing.Outcome). o .answer .refused) e in
+      let r = ap (λ (o : calls.Outcome). o .answer .refused) e in
       absurd (omega arith)
 
   refused-by : (n number : ℕ) {size : ℕ} {kept left : List ℕ} → listing.outcome (Refused number) kept ≡ call n → outcome size left ≡ answerOutcome (refusalLine number) kept
       → outcome size left ≡ answerOutcome (answerOf n (bytesListing input)) out
   refused-by zero number e line =
-      let l = ap (λ (o : listing.Outcome). o .answer .length) e in
+      let l = ap (λ (o : calls.Outcome). o .answer .length) e in
       absurd (omega (arith, head-at-least (length input / 2)))
   refused-by (suc n) number e line =
-      let r = ap (λ (o : listing.Outcome). o .answer .refused) e in
-      let k = ap (λ (o : listing.Outcome). o .buffer) e in
+      let r = ap (λ (o : calls.Outcome). o .answer .refused) e in
+      let k = ap (λ (o : calls.Outcome). o .buffer) e in
       line ∙ (λ i. answerOutcome (refusalLine (r i)) (k i))
 
   pub served : {size : ℕ} {left : List ℕ} → listing.outcome (Written size) left ≡ bytesOutcome input out → outcome size left ≡ programOutcome true input out

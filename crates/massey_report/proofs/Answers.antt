@@ -6,6 +6,7 @@ use mathlib.Core.Path.{_≡_, refl, sym, ap, _∙_}
 use mathlib.Core.Bool.{Bool, true, false}
 use mathlib.Core.List.{List}
 use lib.ListN.{length}
+use Rattle.encoding.specs.Answer as calls
 use Rattle.marks.specs.Marks.{marked}
 use Rattle.report.specs.declared.Reported.the-variants.{Written, Refused}
 use Rattle.report.specs.Report.{reportBytes}
@@ -50,14 +51,14 @@ module _ (b out : List ℕ) {whole : Bool} (w : whole ≡ true) where
   written-answer {n} {o} h =
       let e = bytes-written b out h in
       let q = h ∙ bytes-left b out e in
-      fitting (reportBytes marked (inputOf b)) out (fits e) (ap (λ (x : reporting.Outcome). x .answer .length) q) (ap (λ (x : reporting.Outcome). x .buffer) q)
+      fitting (reportBytes marked (inputOf b)) out (fits e) (ap (λ (x : calls.Outcome). x .answer .length) q) (ap (λ (x : calls.Outcome). x .buffer) q)
       ∙ ap (λ (x : List ℕ). answerOutcome x out) (sym (report-answer e))
 
   -- it told a number, and left the buffer o as it was
   pub refused-answer : {n : ℕ} {o : List ℕ} → reporting.outcome (Refused n) o ≡ bytesOutcome b out → answerOutcome (refusalLine n) o ≡ programOutcome whole b out
   refused-answer {n} {o} h =
       let e = bytes-number b out h in
-      let kept : o ≡ out = ap (λ (x : reporting.Outcome). x .buffer) h ∙ bytes-kept b out (λ z. e .1 (e .0 ∙ z)) in
+      let kept : o ≡ out = ap (λ (x : calls.Outcome). x .buffer) h ∙ bytes-kept b out (λ z. e .1 (e .0 ∙ z)) in
       let line = line-answer whole b (length out) (e .0 ∙ rw w) (e .1) in
       rw kept (ap (λ (x : List ℕ). answerOutcome x out) (sym line))
 

@@ -24,7 +24,8 @@ use Rattle.report.specs.declared.Reported.the-variants.{Refused}
 use Rattle.report.specs.Report.{noRecord, headRecord, startRecords, byteRecords, endRecords, endBytes, reportOn, reportBytes}
 use Rattle.report.specs.Slots.{Reportable}
 use Rattle.report.specs.Public.{reportLimit, reportRefusal}
-use Rattle.report.specs.Outcome.{Outcome, outcome, served, unlessRefused, reportOutcome, reportIn}
+use Rattle.encoding.specs.Answer.{Outcome, unlessRefused}
+use Rattle.report.specs.Outcome.{outcome, served, reportOutcome, reportIn}
 use Rattle.report.proofs.Bounds.{guarded-bounded, whole-array}
 
 -- ---- the machine that a guarded run leaves is one of which a report can be written

@@ -18,7 +18,8 @@ use Rattle.guard.specs.Input.{inputFrom, zeroOne, inputRefusal}
 use Rattle.report.specs.declared.Reported.the-variants.{Written, Refused}
 use Rattle.report.specs.Report.{reportBytes}
 use Rattle.report.specs.Public.{reportLimit, reportRefusal}
-use Rattle.report.specs.Outcome.{Outcome, outcome, served, unlessRefused, reportOutcome, reportIn}
+use Rattle.encoding.specs.Answer.{Outcome, unlessRefused}
+use Rattle.report.specs.Outcome.{outcome, served, reportOutcome, reportIn}
 use Rattle.report.specs.Program.{imageLength, marksAt, budgetAt, countAt, breaksAt, budgetIn, breakCount, inputOf, badMarks, firstRefusal, bytesRefusal, bytesOutcome}
 use Rattle.report.proofs.Accepts.{passed, met}
 use Rattle.report.proofs.Calls.{answered, refused-number}

@@ -1,9 +1,10 @@
 -- What the call for a report answers, and the buffer that it leaves (01, sections 1 and 6).
 -- Assumes nothing.
-use Prim.Native.Nat.{ℕ, zero, suc}
+use Prim.Native.Nat.{ℕ}
 use mathlib.Core.List.{List}
 use lib.ListN.{length, take}
 use Rattle.encoding.specs.Bytes.{over}
+use Rattle.encoding.specs.Answer.{Told, Outcome, unlessRefused}
 use Rattle.marks.specs.Marks.{marked}
 use Rattle.guard.specs.Input.{Input}
 use Rattle.report.specs.declared.Reported.{Reported}
@@ -11,18 +12,10 @@ use Rattle.report.specs.declared.Reported.the-variants.{Written, Refused
 use Rattle.report.specs.Report.{reportBytes}
 use Rattle.report.specs.Public.{reportRefusal}
 
--- what the call answers by 01's number (its last paragraph): that of the refusal, 0 for none, and the report's length, 0 where refused
-pub record Told : Type 0 where
-  pub refused : ℕ
-  pub length : ℕ
-
+-- what the call answers by 01's number (its last paragraph)
 abbrev pub told : Reported → Told
 told (Written n) = record { refused = 0; length = n }
 told (Refused n) = record { refused = n; length = 0 }
-
-pub record Outcome : Type 0 where
-  pub answer : Told
-  pub buffer : List ℕ
 
 abbrev pub outcome : Reported → List ℕ → Outcome
 outcome a b = record { answer = told a; buffer = b }
@@ -34,11 +27,6 @@ written n b = outcome (Written n) b
 -- the report r in the first bytes of the buffer, and its length; what stands behind it is kept
 abbrev pub served : List ℕ → List ℕ → Outcome
 served r out = written (length r) (over out 0 r)
-
--- the number of the refusal alone, and the buffer as it was; where there is none, the second
-abbrev pub unlessRefused : ℕ → List ℕ → Outcome → Outcome
-unlessRefused zero out o = o
-unlessRefused (suc n) out o = outcome (Refused (suc n)) out
 
 unfoldable pub reportOutcome : Input → List ℕ → Outcome
 reportOutcome i out = unlessRefused (reportRefusal i (length out)) out (served (reportBytes marked i) out)

@@ -12,7 +12,8 @@ use Rattle.marks.specs.Marks.{marked}
 use Rattle.guard.specs.Input.{Input, zeroOne, breakLimit, budgetLimit}
 use Rattle.report.specs.Report.{reportBytes}
 use Rattle.report.specs.Public.{reportLimit}
-use Rattle.report.specs.Outcome.{Outcome, served, unlessRefused}
+use Rattle.encoding.specs.Answer.{Outcome, unlessRefused}
+use Rattle.report.specs.Outcome.{served}
 
 -- where the parts behind n words begin
 abbrev pub marksAt : ℕ → ℕ

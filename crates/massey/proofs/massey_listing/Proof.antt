@@ -3,14 +3,14 @@ use Prim.Native.Nat.{_≤_}
 use native.Mathlib.Omega.{arith}
 use mathlib.Core.Path.{_≡_, sym, ap, _∙_}
 use denote.Ref.{now}
-use lib.IntN.{ℤ}
+use Rattle.encoding.specs.Answer.{Outcome}
 use Rattle.listing.specs.declared.Listed.{Listed}
 use Rattle.listing.specs.declared.Listed.the-variants.{Written, Refused}
 use Rattle.listing.specs.Listing as listing
 use Rattle.listing.proofs.Listings.{bytes-at-most}
 use Rattle.report.specs.Public.{reportLimit}
-use Rattle.massey.specs.Calls.{outcome, numberOf, listingOutcome}
-use Rattle.massey.proofs.Answers.{small, length-read, minus-fits, refusal-read}
+use Rattle.massey.specs.Calls.{listingOutcome}
+use Rattle.massey.proofs.Answers.{numbered, small, length-read, minus-fits, refusal-read}
 use borrow.Author.Needs.{needs}
 use Rattle.massey.proofs.massey_listing.Statement.{statement}
 use Rattle.massey.proofs.massey_listing.Tie as tie
@@ -21,17 +21,12 @@ module _ (p : tie.After-list-bytes) where
   told e = ap (λ (l : Listed). listing.outcome l (p .list-bytes .last .1 .0)) (sym e) ∙ p .list-bytes .ensures
 
 listed : (c : tie.After-known-told) → c .before .listed .given .0 .0 ≡ listing.bytesOutcome (now (c .before .before .before .before .before .before .before .before .before .args .image)) (now (c .before .before .before .before .before .before .before .before .before .args .out)) .answer .length
-listed c = ap (λ (o : listing.Outcome). o .answer .length) (told (c .before .before .before .before .before) (c .before .listed .given .1))
+listed c = ap (λ (o : Outcome). o .answer .length) (told (c .before .before .before .before .before) (c .before .listed .given .1))
 
 at-most : (c : tie.After-known-told) → c .before .listed .given .0 .0 ≤ reportLimit
 at-most c =
     let s = c .before .before .before .before .before .before .before .before .before .args in
     omega (arith, listed c, bytes-at-most (now (s .image)) (now (s .out)))
-
-numbered : {n : ℤ} {a o : listing.Outcome} → n ≡ numberOf (a .answer .refused) (a .answer .length) → a ≡ o → outcome n (a .buffer) ≡ outcome (numberOf (o .answer .refused) (o .answer .length)) (o .buffer)
-numbered e t =
-    let f = e ∙ ap (λ (o : listing.Outcome). numberOf (o .answer .refused) (o .answer .length)) t in
-    λ i. outcome (f i) (t i .buffer)
 
 byte : (c : tie.After-known-told2) → c .before .listed2 .given .0 .0 ≤ 255
 byte c = omega (arith, c .known-told2 .given)

@@ -3,14 +3,14 @@ use Prim.Native.Nat.{_≤_}
 use native.Mathlib.Omega.{arith}
 use mathlib.Core.Path.{_≡_, sym, ap, _∙_}
 use denote.Ref.{now}
-use lib.IntN.{ℤ}
+use Rattle.encoding.specs.Answer.{Outcome}
 use Rattle.report.specs.declared.Reported.{Reported}
 use Rattle.report.specs.Outcome as reporting
 use Rattle.report.specs.Program.{bytesOutcome}
 use Rattle.report.proofs.Programs.{bytes-at-most}
 use Rattle.report.specs.Public.{reportLimit}
-use Rattle.massey.specs.Calls.{outcome, numberOf, reportedOutcome}
-use Rattle.massey.proofs.Answers.{small, length-read, minus-fits, refusal-read}
+use Rattle.massey.specs.Calls.{reportedOutcome}
+use Rattle.massey.proofs.Answers.{numbered, small, length-read, minus-fits, refusal-read}
 use borrow.Author.Needs.{needs}
 use Rattle.massey.proofs.massey_report.Statement.{statement}
 use Rattle.massey.proofs.massey_report.Tie as tie
@@ -25,14 +25,8 @@ at-most : (c : tie.After-known-told) → c .before .reported .given .0 .0 ≤ re
 at-most c =
     let p = c .before .before .before .before .before in
     let s = p .before .before .before .before .args in
-    let e = ap (λ (o : reporting.Outcome). o .answer .length) (told p (c .before .reported .given .1)) in
+    let e = ap (λ (o : Outcome). o .answer .length) (told p (c .before .reported .given .1)) in
     omega (arith, e, bytes-at-most (now (s .input)) (now (s .out)))
-
-numbered : {n : ℤ} {a o : reporting.Outcome} → n ≡ numberOf (a .answer .refused) (a .answer .length) → a ≡ o
-    → outcome n (a .buffer) ≡ outcome (numberOf (o .answer .refused) (o .answer .length)) (o .buffer)
-numbered e t =
-    let f = e ∙ ap (λ (o : reporting.Outcome). numberOf (o .answer .refused) (o .answer .length)) t in
-    λ i. outcome (f i) (t i .buffer)
 
 byte : (c : tie.After-known-told2) → c .before .reported2 .given .0 .0 ≤ 255
 byte c = omega (arith, c .known-told2 .given)
