@@ -24,7 +24,7 @@ use Rattle.guard.specs.declared.stops.RunStop.the-variants.{Breakpoint as RunBr
 use Rattle.vm.specs.Machine.{Machine, microStep}
 use Rattle.vm.specs.Instruction.{Steps, started, ticked, unlessZero, steps, stepInstruction}
 use Rattle.vm.specs.Run.{verdict, closed, RunEnd, run}
-use Rattle.guard.specs.Stops.{Verdict, go, stop, haltStop, reached, verdictIf, stopNumber, runNumber, runRefusal}
+use Rattle.guard.specs.Stops.{Verdict, go, stop, haltStop, reached, verdictIf, stopNumber, told, refusalIn, numberIn}
 use Rattle.vm.specs.Calls.{restarted}
 use Rattle.vm.specs.Guard.{Guarded, GuardedEnd, nextWord, guardedStep, guardClosed, guardedEnd, guard, guardedRun, guardedStart, guardedOf}
 use Rattle.guard.specs.Input.{Input, inputRefusal}
@@ -119,8 +119,8 @@ plain-hidden hid b n g h = plain-end hid b n g ∙ left-open (guardedRun hid b 0
 -- both go on; both stop, and leave the machine alike; or the guarded run stops for something hidden
 -- two stops with one number, neither a refusal, that leave the same machine
 record Alike (c : GuardedStop) (d : RunStop) : Type 0 where
-  number : stopNumber c ≡ runNumber d
-  served : runRefusal d ≡ 0
+  number : stopNumber c ≡ numberIn (told d)
+  served : refusalIn (told d) ≡ 0
   leaves : (m : Machine) → guardClosed c m ≡ closed d m
 
 data Turn (v : Verdict GuardedStop) (u : Verdict RunStop) : Type 0 where
@@ -144,8 +144,8 @@ beside false false false false false o s q = on refl (ap (λ (x : Bool). cond x 
 
 -- two ends that show the same: the stop's number, which is no refusal, the machine, and how many instructions were begun
 pub record Same (e : GuardedEnd) (r : RunEnd) : Type 0 where
-  pub stop : stopNumber (e .stop) ≡ runNumber (r .stop)
-  pub served : runRefusal (r .stop) ≡ 0
+  pub stop : stopNumber (e .stop) ≡ numberIn (told (r .stop))
+  pub served : refusalIn (told (r .stop)) ≡ 0
   pub machine : e .guarded .machine ≡ r .machine
   pub executed : e .executed ≡ r .executed
 
@@ -167,8 +167,8 @@ module _ (hid : ℕ → Bool) (b : List ℕ) where
       let x = guard-stops hid b k n g c p in
       let y = run-stops b k n (g .machine) d q in
       record {
-        stop = ap (λ (e : GuardedEnd). stopNumber (e .stop)) x ∙ r .number ∙ sym (ap (λ (e : RunEnd). runNumber (e .stop)) y);
-        served = ap (λ (e : RunEnd). runRefusal (e .stop)) y ∙ r .served;
+        stop = ap (λ (e : GuardedEnd). stopNumber (e .stop)) x ∙ r .number ∙ sym (ap (λ (e : RunEnd). numberIn (told (e .stop))) y);
+        served = ap (λ (e : RunEnd). refusalIn (told (e .stop))) y ∙ r .served;
         machine = ap (λ (e : GuardedEnd). e .guarded .machine) x ∙ r .leaves (g .machine) ∙ sym (ap (λ (e : RunEnd). e .machine) y);
         executed = ap (λ (e : GuardedEnd). e .executed) x ∙ sym (ap (λ (e : RunEnd). e .executed) y);
       }
