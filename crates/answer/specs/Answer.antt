@@ -6,18 +6,12 @@ use mathlib.Core.List.{List}
 use lib.Dec.{ltb}
 use lib.ListN.{length}
 use Rattle.encoding.specs.Bytes.{over}
+use Rattle.encoding.specs.Answer.{Outcome, outcome}
 use Rattle.answer.specs.Line.{refusalLine}
 
--- how many bytes of the buffer are the answer, and the buffer
-pub record Outcome : Type 0 where
-  pub size : ℕ
-  pub buffer : List ℕ
-
-abbrev pub outcome : ℕ → List ℕ → Outcome
-outcome n b = record { size = n; buffer = b }
-
--- an answer stands at the buffer's start, and the bytes behind it are kept; one that does not fit is not written, and the answer is no byte
-unfoldable pub answerOutcome : List ℕ → List ℕ → Outcome
+-- how many bytes of the buffer are the answer, and the buffer: they stand at its start, and the bytes behind them are kept; an answer that does
+-- not fit is not written, and is no byte
+unfoldable pub answerOutcome : List ℕ → List ℕ → Outcome ℕ
 answerOutcome bytes out = cond (ltb (length out) (length bytes)) (outcome 0 out) (outcome (length bytes) (over out 0 bytes))
 
 -- the line of the refusal, or the bytes of a call that is served

@@ -8,9 +8,11 @@ ghost use mathlib.Core.Path.{_≡_};
 ghost use mathlib.Core.List.{_++_};
 ghost use Prim.Native.Nat.{_+_, _≤_};
 ghost use lib.ListN.{length, take};
+ghost use Rattle.isa.specs.Format.{decimal};
 ghost use Rattle.encoding.specs.Bytes.{over};
-ghost use Rattle.answer.specs.Line.{decimal, refusalLine, countsLine};
-ghost use Rattle.answer.specs.Answer.{outcome, answerOutcome};
+ghost use Rattle.encoding.specs.Answer.{outcome};
+ghost use Rattle.answer.specs.Line.{refusalLine, countsLine};
+ghost use Rattle.answer.specs.Answer.{answerOutcome};
 use encoding::put_bytes;
 
 // The first `n` bytes, or all where there are fewer.
@@ -27,9 +29,9 @@ pub fn first(bytes: &[u8], n: usize) -> &[u8]
 // both.
 fn put_numbered(line: &mut [u8], at: usize, n: u64, text: &[u8]) -> usize
     requires { ⌜ at + (20 + length (now text)) ≤ length (now line) ⌝ }
-    ensures { λ r. ⌜ r ≡ at + length (decimal n ++ now (text .entry)) ⌝ }
+    ensures { λ r. ⌜ r ≡ at + length (decimal 20 n ++ now (text .entry)) ⌝ }
     ensures { λ r. ⌜ r ≤ at + (20 + length (now (text .entry))) ⌝ }
-    ensures { λ _. ⌜ now (line .exit) ≡ over (now (line .entry)) at (decimal n ++ now (text .entry)) ⌝ }
+    ensures { λ _. ⌜ now (line .exit) ≡ over (now (line .entry)) at (decimal 20 n ++ now (text .entry)) ⌝ }
 {
     let mut digits = [0u8; 20];
     let count = io::decimal(n, &mut digits);

@@ -1,6 +1,10 @@
 -- Answers that are enums, each by its number and values (01, the last paragraph); zeros where there is none.
 -- Assumes nothing.
 use Prim.Native.Nat.{ℕ}
+use mathlib.Core.Bool.{cond}
+use mathlib.Core.List.{List, [], _∷_, _++_}
+use lib.Dec.{eqb}
+use Rattle.encoding.specs.Bytes.{bigEndian}
 use Rattle.control.specs.declared.control.Fault.{Fault}
 use Rattle.control.specs.declared.control.Fault.the-variants.{Healthy, UnknownInstruction, StepBudgetExhausted}
 use Rattle.control.specs.declared.control.BusTransfer.{BusTransfer}
@@ -24,6 +28,17 @@ abbrev pub faultCode : Fault → FaultCode
 faultCode Healthy = record { kind = 0; word = 0; address = 0 }
 faultCode (UnknownInstruction w a) = record { kind = 1; word = w; address = a }
 faultCode (StepBudgetExhausted w a) = record { kind = 2; word = w; address = a }
+
+-- its bytes, in a history record and in a report: kind, word, address
+abbrev pub faultWidth : ℕ
+faultWidth = 4
+
+unfoldable pub faultBytes : Fault → List ℕ
+faultBytes f = faultCode f .kind ∷ (bigEndian 2 (faultCode f .word) ++ (faultCode f .address ∷ []))
+
+-- and back, from kind, word and address, which count for nothing under kind 0
+abbrev pub faultOf : ℕ → ℕ → ℕ → Fault
+faultOf kind w a = cond (eqb kind 1) (UnknownInstruction w a) (cond (eqb kind 2) (StepBudgetExhausted w a) Healthy)
 
 -- ---- the call program's document, 04 and 0A
 

@@ -1,3 +1,5 @@
+pub mod Address
+pub mod Control
 pub mod Operation
 pub mod Codes
 pub mod Lawful

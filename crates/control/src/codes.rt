@@ -1,13 +1,16 @@
 // Each enum of an answer by its number and values, with zeros where there is none: what every program
 // writes of them.
 ghost use mathlib.Core.Path.{_≡_};
-ghost use Rattle.control.specs.Codes.{faultCode, transferCode, writeCode, operationNumber, wordCode, aluCode};
+ghost use Rattle.control.specs.Codes.{faultCode, faultBytes, faultOf, transferCode, writeCode, operationNumber, wordCode, aluCode};
 use crate::control::AluOperation;
 use crate::control::AluRecord;
 use crate::control::BusTransfer;
 use crate::control::Fault;
 use crate::control::RegisterWrite;
 use crate::control::WordOption;
+
+// The bytes of a fault in a history record and in a report.
+pub const FAULT_WIDTH: usize = 4;
 
 // A fault: 0 none, 1 unknown, 2 budget.
 pub struct FaultCode {
@@ -67,6 +70,40 @@ impl Fault {
             },
         }
     }
+
+    // In its four bytes: kind, word, address.
+    pub fn bytes(self) -> [u8; FAULT_WIDTH]
+        ensures { λ r. ⌜ r ≡ faultBytes self ⌝ }
+    {
+        match self {
+            Fault::Healthy => [0, 0, 0, 0],
+            Fault::UnknownInstruction { word, address } => [
+                1,
+                (word / 256 % 256) as u8,
+                (word % 256) as u8,
+                address,
+            ],
+            Fault::StepBudgetExhausted { word, address } => [
+                2,
+                (word / 256 % 256) as u8,
+                (word % 256) as u8,
+                address,
+            ],
+        }
+    }
+}
+
+// The fault that has this code.
+pub fn fault_of(kind: u8, word: u16, address: u8) -> Fault
+    ensures { λ r. ⌜ r ≡ faultOf kind word address ⌝ }
+{
+    if kind == 1 {
+        return Fault::UnknownInstruction { word, address };
+    }
+    if kind == 2 {
+        return Fault::StepBudgetExhausted { word, address };
+    }
+    Fault::Healthy
 }
 
 impl BusTransfer {

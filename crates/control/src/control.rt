@@ -2,6 +2,7 @@
 ghost use mathlib.Core.Path.{_≡_};
 ghost use Rattle.isa.specs.Text.{ascii, text};
 ghost use Rattle.control.specs.Operation.{operationName};
+use crate::address::Address;
 use isa::Text;
 
 // The fault that stopped the machine, if any: the Rust's Option<Fault>.
@@ -14,8 +15,8 @@ pub enum Fault {
 // One transfer across the bus, if there was one: the Rust's Option<BusTransfer>.
 pub enum BusTransfer {
     Idle,
-    Read { address: u8, value: u16 },
-    Write { address: u8, value: u16 },
+    Read { address: Address, value: u16 },
+    Write { address: Address, value: u16 },
 }
 
 // A word that may be missing: the Rust's Option<u16>.
@@ -74,7 +75,7 @@ pub struct Control {
     pub ir: u16,
     pub mdr: u16,
     pub pc: u8,
-    pub mar: u8,
+    pub mar: Address,
     pub instruction_address: u8,
     pub tick: u8,
     pub execute_ticks: u8,

@@ -1,16 +1,22 @@
 // What one tick reads and leaves, by value; how it counts; and which states of the control unit a machine
 // can be in: what every layer above speaks of, and no tick itself.
+mod address;
 mod codes;
 mod control;
 mod counters;
 mod last;
 mod lawful;
 
+pub use address::ADDRESS_WIDTH;
+pub use address::Address;
+pub use address::reached_address;
 pub use codes::AluCode;
+pub use codes::FAULT_WIDTH;
 pub use codes::FaultCode;
 pub use codes::TransferCode;
 pub use codes::WordCode;
 pub use codes::WriteCode;
+pub use codes::fault_of;
 pub use control::AluOperation;
 pub use control::AluRecord;
 pub use control::BusTransfer;

@@ -13,7 +13,7 @@ use Rattle.control.specs.declared.counters.Counters.{Counters}
 use Rattle.control.specs.Count.{counterLimit, overCounted, oneMore, more}
 use Rattle.direct.specs.Work.{counts, readsBy, writesBy, countWhole}
 use Rattle.direct.specs.Lane.{stretchLength, roomy, lengthFor}
-use Rattle.direct.proofs.Words.{few-ticks}
+use Rattle.plan.proofs.Plans.{ticks-few}
 
 one-on : (a : ℕ) → (a % 2 ^ 64 + 1) % 2 ^ 64 ≡ (a + 1) % 2 ^ 64
 one-on a = omega arith
@@ -60,7 +60,7 @@ room-next n d b k r =
     let e = more-four (executeTicks d) (k .«micro_operations») in
     record {
       instructions = one-counts (counts d) n (k .instructions) (r .instructions);
-      ticks = omega (arith, e, few-ticks d, r .ticks);
+      ticks = omega (arith, e, ticks-few d, r .ticks);
       reads = reads-count b n (k .«bus_reads») (r .reads);
       writes = writes-count b n (k .«bus_writes») (r .writes);
     }

@@ -2,12 +2,12 @@
 -- Assumes nothing.
 use Prim.Native.Nat.{ℕ, suc, _+_, _<_, _%_, _^_}
 use native.Mathlib.Omega.{arith}
-use mathlib.Core.Path.{_≡_, refl, ap, sym, subst, _∙_}
+use mathlib.Core.Path.{_≡_, refl, sym, subst, _∙_}
 use mathlib.Core.Bool.{Bool, true, false, cond, not}
 use mathlib.Core.List.{List}
 use borrow.Author.Tests.{eqb-true}
 use lib.Dec.{eqb}
-use lib.ListN.{take, getD}
+use lib.ListN.{take}
 use Rattle.isa.specs.declared.opcode.Opcode.{Opcode}
 use Rattle.isa.specs.declared.opcode.Opcode.the-variants.{LoadImmediate, LoadRegister, LoadMemory, StoreMemory, Add, Negate, ShiftRight, ShiftLeft, And, Or, Xor, Jump, Halt}
 use Rattle.isa.specs.declared.opcode.Decoded.{Decoded}
@@ -18,18 +18,20 @@ use Rattle.control.specs.declared.control.Operands.{Operands}
 use Rattle.control.specs.declared.counters.Counters.{Counters}
 use Rattle.control.proofs.Lawfuls.{true-false}
 use Rattle.marks.specs.Marks.{Marks, marked, marksOf, mdrMarked, executedMarks, instructionMarks}
-use Rattle.guard.specs.Stops.{hiddenJump, passes}
-use Rattle.trace.specs.Cells.{registersAfter, registersBy, memoryAfter}
+use Rattle.guard.specs.Stops.{hiddenJump}
+use Rattle.guard.specs.Forms.{passes}
+use Rattle.trace.specs.Cells.{memoryAfter}
+use Rattle.trace.specs.Forms.{registersBy}
 use Rattle.trace.specs.Touched.{TouchFit, touchedBy}
 use Rattle.trace.proofs.Writes.{one-of-sixteen}
 use Rattle.direct.specs.declared.work.Work.{Work}
-use Rattle.direct.specs.Work.{operands, worked, counts, halts, faultBy, countWhole}
-use Rattle.direct.specs.Light.{Light, wordAt, lightBy, workOf, lightStep, Fast}
+use Rattle.direct.specs.Work.{operands, worked, counts, halts, countWhole}
+use Rattle.direct.specs.Light.{workOf, lightStep}
 use Rattle.direct.specs.Table.{Noted, notedOf, Table, touchSeen}
 use Rattle.direct.specs.Lane.{Slots, slotsOf, slotsBy, slotStep, slotNext, lastingOf, slotWord, goesOn, lightIn, marksIn}
 use Rattle.direct.proofs.Counts.{Room, room-next}
 use Rattle.direct.proofs.Words.{named, sends, unfaulted, stays}
-use Rattle.direct.proofs.Tables.{Live, touch-live, unbroken}
+use Rattle.direct.proofs.Tables.{Live, touch-live}
 
 -- ---- the calls of one instruction
 

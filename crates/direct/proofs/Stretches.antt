@@ -6,13 +6,12 @@ use native.Mathlib.Decide.{decLt}
 use mathlib.Core.Path.{_≡_, refl, ap, sym, subst, _∙_}
 use mathlib.Core.Bool.{Bool, true, false, _&&_}
 use mathlib.Core.List.{List}
-use borrow.Author.Tests.{eqb-true, lt-ltb, le-ltb, ltb-true}
+use borrow.Author.Tests.{eqb-true, lt-ltb, ltb-true}
 use lib.Dec.{eqb, ltb}
 use lib.ListN.{take, getD}
 use Rattle.isa.specs.Word.{decodeWord}
 use Rattle.control.specs.declared.control.Fault.{Fault}
 use Rattle.control.specs.declared.counters.Counters.{Counters}
-use Rattle.control.proofs.Lawfuls.{true-false}
 use Rattle.marks.specs.Marks.{Marks, marked, marksOf, mdrMarked, instructionMarks}
 use Rattle.marks.proofs.Moves.{fetch-opens}
 use Rattle.trace.specs.Touched.{TouchFit}
@@ -152,7 +151,7 @@ module _ (b t : List ℕ) (table : Table b t) (f : Fault) (k : ℕ) (l : Light) 
   -- a whole one: there was room for it
   long : (c : Counters) (s : Slots) → eqb (stretch t (lengthFor c) 0 s .made) stretchLength ≡ true → (lengthFor c ≡ stretchLength) × Room stretchLength c
   unfolding stretch
-  long c s e = room-whole c (λ z. let x : _≡_ {A = ℕ} 0 256 = sym (ap (λ (n : ℕ). stretch t n 0 s .made) z) ∙ eqb-true _ _ e in omega (arith, x))
+  long c s e = room-whole c (λ z. let x : _≡_ {A = ℕ} 0 stretchLength = sym (ap (λ (n : ℕ). stretch t n 0 s .made) z) ∙ eqb-true _ _ e in omega (arith, x))
 
   whole-stretch : (j : ℕ) (s : Slots) → Stands b f k l q j s → let r = stretch t (lengthFor (s .lane .counters)) 0 s in eqb (r .made) stretchLength ≡ true → Stands b f k l q (j + stretchLength) (r .slots)
   whole-stretch j s a e =
@@ -165,7 +164,7 @@ module _ (b t : List ℕ) (table : Table b t) (f : Fault) (k : ℕ) (l : Light) 
 
   -- what holds of all that can be kept holds of what is: each has a whole stretch behind it
   module _ (P : Ahead → Type 0) (B : ℕ) (keep : (j : ℕ) (s : Slots) → Stands b f k l q j s → FastFor marked b k (j + stretchLength) l q → j + stretchLength ≤ B → P (ahead j s)) where
-    pub leads-keeps : (n j : ℕ) (kept : Ahead) (s : Slots) → P kept → Stands b f k l q j s → j + n * 256 ≤ B → P (leads t n kept j s)
+    pub leads-keeps : (n j : ℕ) (kept : Ahead) (s : Slots) → P kept → Stands b f k l q j s → j + n * stretchLength ≤ B → P (leads t n kept j s)
     unfolding leads
     leads-keeps zero j kept s p a h = p
     leads-keeps (suc n) j kept s p a h =
@@ -195,4 +194,4 @@ module _ (b : List ℕ) (B : ℕ) (f : Fault) (k : ℕ) (s : Lane) (m r u x y : 
       → ((j : ℕ) (z : Slots) → Stands b f k (lightIn f first) (marksOf x y d) j z → FastFor marked b k (j + stretchLength) (lightIn f first) (marksOf x y d) → j + stretchLength ≤ B → P (ahead j z))
       → P (forward b B s m r u x y)
   unfolding forward
-  forward-keeps P p keep = leads-keeps b (tableOf b) (table-is b) f k (lightIn f first) (marksOf x y d) P B keep (B / 256) 0 (ahead 0 first) first p starts (omega arith)
+  forward-keeps P p keep = leads-keeps b (tableOf b) (table-is b) f k (lightIn f first) (marksOf x y d) P B keep (B / stretchLength) 0 (ahead 0 first) first p starts (omega arith)

@@ -10,14 +10,15 @@ use borrow.Author.Tests.{eq-eqb, ne-eqb, eqb-true, eqb-false, lt-ltb}
 use lib.Dec.{eqb}
 use lib.ListN.{length, take, drop, getD, set, replicate, length-set}
 use lib.Seq.{drop-cons, length-take-le, getD-take}
+use Rattle.isa.specs.Sizes.{memoryWords}
 use Rattle.encoding.specs.Bytes.{member}
 use Rattle.control.specs.declared.control.BusTransfer.{BusTransfer}
 use Rattle.control.specs.declared.control.BusTransfer.the-variants.{Idle, Read, Write}
-use Rattle.control.proofs.Lawfuls.{true-false}
 use Rattle.guard.specs.Stops.{reached}
-use Rattle.trace.specs.Touched.{noted, touchedBy, TouchFit, Places, placesOf, noteIn, touchIn}
+use Rattle.trace.specs.Touched.{noted, touchedBy, Addressed, TouchFit}
+use Rattle.trace.specs.Forms.{placesOf, noteIn, touchIn}
 use Rattle.trace.proofs.Lists.{below-of, full}
-use Rattle.trace.proofs.Places.{Addressed, touched-live}
+use Rattle.trace.proofs.Places.{touched-live}
 use Rattle.trace.proofs.Checks.{seen-next, is-seen, not-seen, empty-table, none-there}
 use Rattle.direct.specs.Table.{Table, tableFrom, tableOf, Noted, notedOf, noteSeen, touchSeen}
 
@@ -52,10 +53,10 @@ table-more p [] t f = rw (append-nil p) f
 table-more p (x ∷ s) t f = rw (append-assoc p (x ∷ []) s) at (table-more (p ++ (x ∷ [])) s (set t x 1) (table-next p t x f))
 
 pub table-is : (p : List ℕ) → Table p (tableOf p)
-table-is p = table-more [] p (replicate 256 0) (record { long = refl; says = λ a h. rw (none-there a) (empty-table a) })
+table-is p = table-more [] p (replicate memoryWords 0) (record { long = refl; says = λ a h. rw (none-there a) (empty-table a) })
 
 -- no breakpoint stands where the table has 0
-pub unbroken : (b t : List ℕ) (k pc : ℕ) → Table b t → pc < 256 → getD t pc 0 ≡ 0 → reached b k pc ≡ false
+pub unbroken : (b t : List ℕ) (k pc : ℕ) → Table b t → pc < memoryWords → getD t pc 0 ≡ 0 → reached b k pc ≡ false
 unbroken b t k pc f h e = go (member pc b) (sym (f .says pc h) ∙ e) (eqb k 0)
   where
     go : (m : Bool) → _≡_ {A = ℕ} (cond m 1 0) 0 → (z : Bool) → cond z false m ≡ false
@@ -71,26 +72,26 @@ pub record Live (q : Noted) (p : List ℕ) : Type 0 where
   pub fit : TouchFit (q .places .count) (q .places .items)
   pub table : Table p (q .seen)
 
-module _ (items t : List ℕ) (n a : ℕ) (f : TouchFit n items) (g : Table (take n items) t) (byte : a < 256) where
+module _ (items t : List ℕ) (n a : ℕ) (f : TouchFit n items) (g : Table (take n items) t) (of-memory : a < memoryWords) where
   -- an address that the table has is noted already
   there : getD t a 0 ≡ 1 → Live (noteSeen a (notedOf n items t)) (noted a (take n items))
   unfolding noteSeen noted
-  there e = rw (eq-eqb _ 1 e, is-seen t (take n items) a (g .long) byte (g .says) e) (record { same = refl; fit = f; table = g })
+  there e = rw (eq-eqb _ 1 e, is-seen t (take n items) a (g .long) of-memory (g .says) e) (record { same = refl; fit = f; table = g })
 
   module _ (e : getD t a 0 ≡ 1 → ⊥) where
     absent : member a (take n items) ≡ false
-    absent = not-seen t (take n items) a (g .long) byte (g .says) e
+    absent = not-seen t (take n items) a (g .long) of-memory (g .says) e
 
     -- one that it does not have has room
-    room : n < 256
+    room : n < memoryWords
     room =
         let l = length-take-le n items (omega (arith, f .count, f .long)) in
-        let b = below-of 256 (take n items) (λ i h. rw (getD-take n items i 0 (omega arith)) (f .bytes i)) in
-        omega (arith, full 256 a (take n items) (f .differ) b byte absent)
+        let b = below-of memoryWords (take n items) (λ i h. rw (getD-take n items i 0 (omega arith)) (f .below i)) in
+        omega (arith, full memoryWords a (take n items) (f .differ) b of-memory absent)
 
     written : placesOf (n + 1) (set items n a) ≡ touchIn (Write a 0) (placesOf n items)
     unfolding touchIn noteIn
-    written = rw (lt-ltb n 256 room, absent)
+    written = rw (lt-ltb n memoryWords room, absent)
 
     added : noted a (take n items) ≡ take n items ++ (a ∷ [])
     unfolding noted
@@ -99,8 +100,8 @@ module _ (items t : List ℕ) (n a : ℕ) (f : TouchFit n items) (g : Table (tak
     new : Live (noteSeen a (notedOf n items t)) (noted a (take n items))
     unfolding noteSeen
     new =
-        let y = touched-live (Write a 0) (placesOf n items) written byte f in
-        rw (ne-eqb _ 1 e, lt-ltb n 256 room) (record { same = y .0; fit = y .1; table = rw added (table-next (take n items) t a g) })
+        let y = touched-live (Write a 0) (placesOf n items) written of-memory f in
+        rw (ne-eqb _ 1 e, lt-ltb n memoryWords room) (record { same = y .0; fit = y .1; table = rw added (table-next (take n items) t a g) })
 
   noted-live : Live (noteSeen a (notedOf n items t)) (noted a (take n items))
   noted-live = go (eqb (getD t a 0) 1) refl

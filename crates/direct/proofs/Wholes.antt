@@ -13,9 +13,9 @@ use Rattle.control.specs.declared.control.Operands.{Operands}
 use Rattle.control.specs.declared.counters.Counters.{Counters}
 use Rattle.control.specs.Last.{lastSent}
 use Rattle.trace.specs.Trace.{Arrays}
-use Rattle.trace.specs.Lines.{lines, loggedIn}
-use Rattle.trace.specs.Touched.{Places, touchIn}
-use Rattle.trace.specs.Cells.{registersBy, memoryAfter}
+use Rattle.trace.specs.Lines.{lines}
+use Rattle.trace.specs.Cells.{memoryAfter}
+use Rattle.trace.specs.Forms.{loggedIn, Places, touchIn, registersBy}
 use Rattle.direct.specs.declared.work.Work.{Work}
 use Rattle.direct.specs.Work.{operands, worked, counts, stateBy, countWhole}
 use Rattle.direct.specs.Light.{takenBy}

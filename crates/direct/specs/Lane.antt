@@ -1,10 +1,10 @@
--- The code's loop over instructions without records (02, Change 11): what is small by value, the arrays lent, marks beside the words.
+-- The code's loop over instructions without records (02, Change 11): what is small by value, the arrays lent, marks beside the words. A reader need not
+-- believe it: `proofs/Stretches.antt` shows that it stands where `lightSteps` and `marksSteps` of `Light` lead.
 -- Assumes nothing.
 use Prim.Native.Nat.{ℕ, zero, suc, _+_, _-_, _*_, _/_, _%_, _^_}
 use mathlib.Core.Bool.{Bool, true, false, cond, _&&_}
 use mathlib.Core.List.{List}
-use denote.Ref.{RefT, now}
-use denote.Triple.Both.{Both}
+use denote.Ref.{now}
 use lib.Dec.{eqb, leb}
 use lib.ListN.{take, getD}
 use Rattle.isa.specs.declared.opcode.Opcode.{Opcode}
@@ -16,8 +16,9 @@ use Rattle.control.specs.declared.control.Fault.{Fault}
 use Rattle.marks.specs.Marks.{Marks, marksOf, executedMarks}
 use Rattle.control.specs.declared.counters.Counters.{Counters}
 use Rattle.control.specs.Count.{counterLimit}
-use Rattle.guard.specs.Stops.{passes}
-use Rattle.trace.specs.Cells.{registersBy, memoryAfter}
+use Rattle.guard.specs.Forms.{passes}
+use Rattle.trace.specs.Cells.{memoryAfter}
+use Rattle.trace.specs.Forms.{Lent, registersBy}
 use Rattle.direct.specs.declared.work.Work.{Work}
 use Rattle.direct.specs.declared.light.Lane.{Lane}
 use Rattle.direct.specs.declared.light.Made.{Made}
@@ -37,10 +38,6 @@ pub record Slots : Type 0 where
 
 abbrev pub slotsOf : Lane → List ℕ → List ℕ → List ℕ → List ℕ → List ℕ → List ℕ → Slots
 slotsOf s m r t n x y = record { lane = s; memory = m; registers = r; touched = t; seen = n; marks = x; registerMarks = y }
-
--- an array that is lent to a call: as it came, and as it is left
-abbrev pub Lent : Type 0
-Lent = Both (RefT (List ℕ)) (RefT (List ℕ))
 
 -- the slots that came to a call, and those that it leaves
 abbrev pub came : Lane → Lent → Lent → Lent → Lent → Lent → Lent → Slots
@@ -128,7 +125,8 @@ goesOn b more s = let pc = s .lane .pc in passes more (getD b pc 0) (getD (s .ma
 unfoldable pub stretch : List ℕ → ℕ → ℕ → Slots → Stretch
 stretch b zero k s = stretched k s
 stretch b (suc n) k s =
-    onlyIf (goesOn b true s && counts (lastingOf (decodeWord (slotWord s)))) (stretched k s) (λ u. stretch b n (k + 1) (slotStep (decodeWord (slotWord s)) (slotWord s) s))
+    let w = slotWord s in
+    onlyIf (goesOn b true s && counts (lastingOf (decodeWord w))) (stretched k s) (λ u. stretch b n (k + 1) (slotStep (decodeWord w) w s))
 
 -- ---- stretch after stretch, each made whole: what is kept stays one behind
 
@@ -141,7 +139,10 @@ roomy n = leb n (counterLimit - 7 * stretchLength)
 
 -- how long the next stretch may be: none where a counter comes near its end in it
 abbrev pub lengthFor : Counters → ℕ
-lengthFor k = cond (roomy (k .instructions)) (cond (roomy (k .«micro_operations»)) (cond (roomy (k .«bus_reads»)) (cond (roomy (k .«bus_writes»)) stretchLength 0) 0) 0) 0
+lengthFor k =
+    cond (roomy (k .instructions))
+    (cond (roomy (k .«micro_operations»)) (cond (roomy (k .«bus_reads»)) (cond (roomy (k .«bus_writes»)) stretchLength 0) 0) 0)
+    0
 
 -- what a call leaves: the table of touched addresses is its own
 pub record Ahead : Type 0 where
@@ -154,10 +155,22 @@ pub record Ahead : Type 0 where
   pub registerMarks : List ℕ
 
 abbrev pub ahead : ℕ → Slots → Ahead
-ahead k s = record { made = k; lane = s .lane; memory = s .memory; registers = s .registers; touched = s .touched; marks = s .marks; registerMarks = s .registerMarks }
+ahead k s = record {
+  made = k;
+  lane = s .lane;
+  memory = s .memory;
+  registers = s .registers;
+  touched = s .touched;
+  marks = s .marks;
+  registerMarks = s .registerMarks;
+}
 
 abbrev pub aheadOf : Made → List ℕ → List ℕ → List ℕ → List ℕ → List ℕ → Ahead
 aheadOf r m w t x y = record { made = r .made .0; lane = r .lane; memory = m; registers = w; touched = t; marks = x; registerMarks = y }
+
+-- what a call leaves of its arrays
+abbrev pub aheadAtLast : Made → Lent → Lent → Lent → Lent → Lent → Ahead
+aheadAtLast r m w t x y = aheadOf r (now (m .exit)) (now (w .exit)) (now (t .exit)) (now (x .exit)) (now (y .exit))
 
 -- at most n stretches more, where k instructions were made: the table of breakpoints
 unfoldable pub leads : List ℕ → ℕ → Ahead → ℕ → Slots → Ahead
@@ -168,7 +181,13 @@ leads b (suc n) kept k s =
 
 -- at most n instructions, with these breakpoints
 unfoldable pub forward : List ℕ → ℕ → Lane → List ℕ → List ℕ → List ℕ → List ℕ → List ℕ → Ahead
-forward b n s m r t x y = let start = slotsOf s m r t (tableOf (take (s .«touched_len») t)) x y in leads (tableOf b) (n / stretchLength) (ahead 0 start) 0 start
+forward b n s m r t x y =
+    let start = slotsOf s m r t (tableOf (take (s .«touched_len») t)) x y in
+    leads (tableOf b) (n / stretchLength) (ahead 0 start) 0 start
+
+-- the same on the arrays that came to a call
+abbrev pub forwardFrom : List ℕ → ℕ → Lane → Lent → Lent → Lent → Lent → Lent → Ahead
+forwardFrom b n s m r t x y = forward b n s (now (m .entry)) (now (r .entry)) (now (t .entry)) (now (x .entry)) (now (y .entry))
 
 -- ---- the light machine, with the fault that it has, and its marks
 

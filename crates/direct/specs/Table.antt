@@ -1,16 +1,18 @@
--- A table with 1 for each byte of a list, in place of a search: breakpoints, and the touched addresses.
+-- A table with 1 for each byte of a list, in place of a search: breakpoints, and the touched addresses. A reader need not believe it: `proofs/Tables.antt`
+-- shows what it says, and that `touchSeen` is `touchedBy`.
 -- Assumes nothing.
 use Prim.Native.Nat.{ℕ, _+_, _<_}
 use mathlib.Core.Path.{_≡_}
 use mathlib.Core.Bool.{cond}
 use mathlib.Core.List.{List, [], _∷_}
+use denote.Ref.{now}
 use lib.Dec.{eqb, ltb}
 use lib.ListN.{length, getD, set, replicate}
 use Rattle.isa.specs.Sizes.{memoryWords}
 use Rattle.encoding.specs.Bytes.{member}
 use Rattle.control.specs.declared.control.BusTransfer.{BusTransfer}
 use Rattle.control.specs.declared.control.BusTransfer.the-variants.{Idle, Read, Write}
-use Rattle.trace.specs.Touched.{Places, placesOf}
+use Rattle.trace.specs.Forms.{Lent, Places, placesOf}
 
 -- a table with the bytes of one list more
 unfoldable pub tableFrom : List ℕ → List ℕ → List ℕ
@@ -33,6 +35,13 @@ pub record Noted : Type 0 where
 
 abbrev pub notedOf : ℕ → List ℕ → List ℕ → Noted
 notedOf n t s = record { places = placesOf n t; seen = s }
+
+-- what came to a call, and what it leaves
+abbrev pub notedAtFirst : ℕ → Lent → Lent → Noted
+notedAtFirst n t s = notedOf n (now (t .entry)) (now (s .entry))
+
+abbrev pub notedAtLast : ℕ → Lent → Lent → Noted
+notedAtLast n t s = notedOf n (now (t .exit)) (now (s .exit))
 
 -- an address written into the next place, unless the table has it or there is none
 unfoldable pub noteSeen : ℕ → Noted → Noted

@@ -1,4 +1,5 @@
--- A whole instruction with its records, as the code holds it (02, Change 11): what is small by value, the arrays lent.
+-- A whole instruction with its records, as the code holds it (02, Change 11): what is small by value, the arrays lent. A reader need not believe it: the
+-- proofs of `vm` show that it is the instruction's ticks.
 -- Assumes nothing.
 use Prim.Native.Nat.{ℕ, _+_, _%_, _^_}
 use mathlib.Core.Bool.{Bool, not}
@@ -12,15 +13,13 @@ use Rattle.control.specs.declared.control.State.{State}
 use Rattle.control.specs.declared.counters.Counters.{Counters}
 use Rattle.control.specs.Last.{lastSent}
 use Rattle.trace.specs.Trace.{Arrays, arraysOf}
-use Rattle.trace.specs.Lines.{lines, loggedIn}
-use Rattle.trace.specs.Touched.{Places, placesOf, touchIn}
-use Rattle.trace.specs.Cells.{registersBy, memoryAfter}
+use Rattle.trace.specs.Lines.{lines}
+use Rattle.trace.specs.Cells.{memoryAfter}
+use Rattle.trace.specs.Forms.{Lent, loggedIn, Places, placesOf, touchIn, registersBy}
 use Rattle.direct.specs.declared.whole.Small.{Small}
 use Rattle.direct.specs.declared.whole.Whole.{Whole}
-use Rattle.direct.specs.declared.work.Work.{Work}
 use Rattle.direct.specs.Work.{operands, worked, counts, stateBy, countWhole}
 use Rattle.direct.specs.Light.{takenBy}
-use Rattle.direct.specs.Lane.{Lent}
 
 pub record Held : Type 0 where
   pub state : State
@@ -31,7 +30,14 @@ pub record Held : Type 0 where
   pub arrays : Arrays
 
 abbrev pub heldOf : Small → List ℕ → List ℕ → List ℕ → List ℕ → List ℕ → List ℕ → Held
-heldOf s m r t k i l = record { state = s .state; counters = s .counters; memory = m; registers = r; places = placesOf (s .«touched_len») t; arrays = arraysOf (s .ring) k i l }
+heldOf s m r t k i l = record {
+  state = s .state;
+  counters = s .counters;
+  memory = m;
+  registers = r;
+  places = placesOf (s .«touched_len») t;
+  arrays = arraysOf (s .ring) k i l;
+}
 
 -- what came to a call, and what it leaves
 abbrev pub heldAtFirst : Small → Lent → Lent → Lent → Lent → Lent → Lent → Held

@@ -1,4 +1,5 @@
--- What a word does once it is fetched, as one change (02, Change 11): PC, the transfer over the bus after the fetch, the register that is written, the ALU's record; and what the whole instruction leaves of the control unit and the counters.
+-- What a word does once it is fetched, as one change (02, Change 11): PC, the transfer over the bus after the fetch, the register that is written,
+-- the ALU's record; and what the whole instruction leaves of the control unit and the counters.
 -- Assumes nothing.
 use Prim.Native.Nat.{ℕ, _+_}
 use mathlib.Core.Bool.{Bool, true, false, cond}
@@ -26,14 +27,16 @@ use Rattle.control.specs.declared.control.Control.{Control}
 use Rattle.control.specs.declared.control.State.{State}
 use Rattle.control.specs.declared.control.Operands.{Operands}
 use Rattle.control.specs.declared.counters.Counters.{Counters}
+use Rattle.control.specs.Address.{reachedAddress}
+use Rattle.control.specs.Control.{freshControl, withPc, withIr, withMar, withMdr, withAddress, withExecuteTicks, withHalted}
 use Rattle.control.specs.Count.{oneMore, more}
 use Rattle.control.specs.Last.{lastBus, lastAddress, lastValue}
 use Rattle.tick.specs.Tick.{sum16, negate16, right16, left16}
 use Rattle.direct.specs.declared.work.Work.{Work}
 
--- the words that a word may read: the one at yz, and registers x, y, z and 0
+-- the words that a word may read: the one that LOAD reaches, and registers x, y, z and 0
 abbrev pub operands : ℕ → List ℕ → List ℕ → Operands
-operands w m r = record { cell = getD m (byteYZ w) 0; x = getD r (digitX w) 0; y = getD r (digitY w) 0; z = getD r (digitZ w) 0; zero = getD r 0 0 }
+operands w m r = record { cell = getD m (reachedAddress w) 0; x = getD r (digitX w) 0; y = getD r (digitY w) 0; z = getD r (digitZ w) 0; zero = getD r 0 0 }
 
 -- from the PC after the word, and the ALU's record before it
 abbrev pub loads : ℕ → ℕ → ℕ → AluRecord → Work
@@ -48,8 +51,8 @@ rests p a = record { pc = p; bus = Idle; write = Unwritten; alu = a }
 abbrev pub worked : Decoded → ℕ → ℕ → AluRecord → Operands → Work
 worked (Known LoadImmediate) w p a o = loads p (digitX w) (byteYZ w) a
 worked (Known LoadRegister) w p a o = loads p (digitY w) (o .z) a
-worked (Known LoadMemory) w p a o = record { pc = p; bus = Read (byteYZ w) (o .cell); write = Written (digitX w) (o .cell); alu = a }
-worked (Known StoreMemory) w p a o = record { pc = p; bus = Write (byteYZ w) (o .x); write = Unwritten; alu = a }
+worked (Known LoadMemory) w p a o = record { pc = p; bus = Read (reachedAddress w) (o .cell); write = Written (digitX w) (o .cell); alu = a }
+worked (Known StoreMemory) w p a o = record { pc = p; bus = Write (reachedAddress w) (o .x); write = Unwritten; alu = a }
 worked (Known Add) w p a o = computes p (digitX w) ADD (o .y) (Some (o .z)) (sum16 (o .y) (o .z))
 worked (Known Negate) w p a o = computes p (digitY w) NEGATE (o .y) None (negate16 (o .y))
 worked (Known ShiftRight) w p a o = computes p (digitX w) SHR (o .x) (Some (byteYZ w)) (right16 (byteYZ w) (o .x))
@@ -75,16 +78,11 @@ faultBy Unknown w a f = UnknownInstruction w a
 
 -- the control unit, and all that is not an array or a counter, after the word w at address a
 abbrev pub controlBy : Decoded → ℕ → ℕ → Work → Control
-controlBy d w a k = record {
-  pc = k .pc;
-  ir = w;
-  mar = lastAddress (k .bus) a;
-  mdr = lastValue (k .bus) w;
-  «instruction_address» = a;
-  tick = 0;
-  «execute_ticks» = executeTicks d;
-  halted = halts d;
-}
+controlBy d w a k =
+    withPc (k .pc)
+    (withIr w
+    (withMar (lastAddress (k .bus) a)
+    (withMdr (lastValue (k .bus) w) (withAddress a (withExecuteTicks (executeTicks d) (withHalted (halts d) freshControl))))))
 
 abbrev pub stateBy : Decoded → ℕ → ℕ → Fault → Work → State
 stateBy d w a f k = record { control = controlBy d w a k; fault = faultBy d w a f; «last_transfer» = lastBus (k .bus) a w; «last_alu» = k .alu }

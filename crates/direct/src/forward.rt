@@ -1,11 +1,12 @@
 // The instructions of a run that its end does not show: made without their records, stretch after stretch.
 ghost use mathlib.Core.Path.{_≡_};
-ghost use Rattle.direct.specs.Lane.{lengthFor, aheadOf, forward};
+ghost use Rattle.direct.specs.Lane.{lengthFor, aheadAtLast, forwardFrom};
 use crate::light::Lane;
 use crate::light::Made;
 use crate::light::light_stretch;
 use crate::table::first_table;
 use crate::table::table_of;
+use control::Address;
 use control::Counters;
 use guard::Begun;
 use isa::MEMORY_WORDS;
@@ -45,13 +46,12 @@ pub fn light_forward(
     breakpoints: &[u8],
     memory: &mut [u16; MEMORY_WORDS],
     registers: &mut [u16; REGISTER_COUNT],
-    touched: &mut [u8; MEMORY_WORDS],
+    touched: &mut [Address; MEMORY_WORDS],
     marks: &mut [u8; MEMORY_WORDS],
     register_marks: &mut [u8; REGISTER_COUNT],
 ) -> Made
-    ensures { λ r. ⌜ aheadOf r (now (memory .exit)) (now (registers .exit)) (now (touched .exit)) (now (marks .exit)) (now («register_marks» .exit))
-        ≡ forward (now (breakpoints .entry)) (limit .0) from (now (memory .entry)) (now (registers .entry)) (now (touched .entry))
-        (now (marks .entry)) (now («register_marks» .entry)) ⌝ }
+    ensures { λ r. ⌜ aheadAtLast r memory registers touched marks «register_marks»
+        ≡ forwardFrom (now (breakpoints .entry)) (limit .0) from memory registers touched marks «register_marks» ⌝ }
 {
     let most = limit.0;
     let mut left = most / STRETCH;

@@ -5,6 +5,7 @@ use crate::table::touch_seen;
 use crate::work::count_whole;
 use crate::work::read_operands;
 use crate::work::work_of;
+use control::Address;
 use control::AluRecord;
 use control::Counters;
 use guard::Begun;
@@ -33,7 +34,7 @@ fn light_instruction(
     s: Lane,
     memory: &mut [u16; MEMORY_WORDS],
     registers: &mut [u16; REGISTER_COUNT],
-    touched: &mut [u8; MEMORY_WORDS],
+    touched: &mut [Address; MEMORY_WORDS],
     seen: &mut [u8; MEMORY_WORDS],
     marks: &mut [u8; MEMORY_WORDS],
     register_marks: &mut [u8; REGISTER_COUNT],
@@ -69,7 +70,7 @@ fn light_known(
     s: Lane,
     memory: &mut [u16; MEMORY_WORDS],
     registers: &mut [u16; REGISTER_COUNT],
-    touched: &mut [u8; MEMORY_WORDS],
+    touched: &mut [Address; MEMORY_WORDS],
     seen: &mut [u8; MEMORY_WORDS],
     marks: &mut [u8; MEMORY_WORDS],
     register_marks: &mut [u8; REGISTER_COUNT],
@@ -251,7 +252,7 @@ pub(crate) fn light_stretch(
     breaks: &[u8; MEMORY_WORDS],
     memory: &mut [u16; MEMORY_WORDS],
     registers: &mut [u16; REGISTER_COUNT],
-    touched: &mut [u8; MEMORY_WORDS],
+    touched: &mut [Address; MEMORY_WORDS],
     seen: &mut [u8; MEMORY_WORDS],
     marks: &mut [u8; MEMORY_WORDS],
     register_marks: &mut [u8; REGISTER_COUNT],

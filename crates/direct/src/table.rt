@@ -1,8 +1,12 @@
 // A table with 1 for each byte of a list, asked for before or in each instruction: breakpoints, and the touched
 // addresses.
 ghost use mathlib.Core.Path.{_≡_};
+ghost use Prim.Native.Nat.{_<_};
 ghost use lib.ListN.{take};
-ghost use Rattle.direct.specs.Table.{tableOf, notedOf, noteSeen, touchSeen};
+ghost use Rattle.isa.specs.Sizes.{memoryWords};
+ghost use Rattle.trace.specs.Touched.{Addressed};
+ghost use Rattle.direct.specs.Table.{tableOf, notedAtFirst, notedAtLast, noteSeen, touchSeen};
+use control::Address;
 use control::BusTransfer;
 use isa::MEMORY_WORDS;
 
@@ -20,7 +24,7 @@ pub(crate) fn table_of(items: &[u8]) -> [u8; MEMORY_WORDS]
 }
 
 // Of the first n; of all where there are fewer.
-pub(crate) fn first_table(items: &[u8], n: usize) -> [u8; MEMORY_WORDS]
+pub(crate) fn first_table(items: &[Address], n: usize) -> [u8; MEMORY_WORDS]
     ensures { λ r. ⌜ r ≡ tableOf (take n (now (items .entry))) ⌝ }
 {
     if n < items.len() {
@@ -29,14 +33,15 @@ pub(crate) fn first_table(items: &[u8], n: usize) -> [u8; MEMORY_WORDS]
     table_of(items)
 }
 
-// The address `a` is added, once; 256 are all there are.
+// The address `a` is added, once; as many as memory has words are all there are.
 fn note_seen(
-    a: u8,
-    items: &mut [u8; MEMORY_WORDS],
+    a: Address,
+    items: &mut [Address; MEMORY_WORDS],
     n: usize,
     seen: &mut [u8; MEMORY_WORDS],
 ) -> usize
-    ensures { λ r. ⌜ notedOf r (now (items .exit)) (now (seen .exit)) ≡ noteSeen a (notedOf n (now (items .entry)) (now (seen .entry))) ⌝ }
+    requires { ⌜ a < memoryWords ⌝ }
+    ensures { λ r. ⌜ notedAtLast r items seen ≡ noteSeen a (notedAtFirst n items seen) ⌝ }
 {
     let at = a as usize;
     if seen[at] == 1 {
@@ -53,11 +58,12 @@ fn note_seen(
 // `touch` of the trace, with a table in place of a search.
 pub(crate) fn touch_seen(
     bus: BusTransfer,
-    items: &mut [u8; MEMORY_WORDS],
+    items: &mut [Address; MEMORY_WORDS],
     n: usize,
     seen: &mut [u8; MEMORY_WORDS],
 ) -> usize
-    ensures { λ r. ⌜ notedOf r (now (items .exit)) (now (seen .exit)) ≡ touchSeen bus (notedOf n (now (items .entry)) (now (seen .entry))) ⌝ }
+    requires { ⌜ Addressed bus ⌝ }
+    ensures { λ r. ⌜ notedAtLast r items seen ≡ touchSeen bus (notedAtFirst n items seen) ⌝ }
 {
     match bus {
         BusTransfer::Idle => n,

@@ -8,6 +8,7 @@ use crate::work::count_whole;
 use crate::work::counted;
 use crate::work::read_operands;
 use crate::work::work_of;
+use control::Address;
 use control::BusTransfer;
 use control::Control;
 use control::Counters;
@@ -101,7 +102,7 @@ pub fn whole_instruction(
     from: Small,
     memory: &mut [u16; MEMORY_WORDS],
     registers: &mut [u16; REGISTER_COUNT],
-    touched: &mut [u8; MEMORY_WORDS],
+    touched: &mut [Address; MEMORY_WORDS],
     columns: &mut [u8; COLUMNS_LENGTH],
     numbers: &mut [u64; TRACE_LIMIT],
     lengths: &mut [u8; TRACE_LIMIT],

@@ -10,6 +10,7 @@ use control::Counters;
 use control::Operands;
 use control::RegisterWrite;
 use control::WordOption;
+use control::reached_address;
 use isa::Decoded;
 use isa::MEMORY_WORDS;
 use isa::Opcode;
@@ -86,7 +87,7 @@ fn load_work(word: u16, pc: u8, alu: AluRecord, o: Operands) -> Work
     ensures { λ r. ⌜ r ≡ worked (Decoded.Known Opcode.LoadMemory) word pc alu o ⌝ }
 {
     let register = (word / 256 % 16) as u8;
-    let address = (word % 256) as u8;
+    let address = reached_address(word);
     let value = o.cell;
     Work {
         alu,
@@ -99,7 +100,7 @@ fn load_work(word: u16, pc: u8, alu: AluRecord, o: Operands) -> Work
 fn store_work(word: u16, pc: u8, alu: AluRecord, o: Operands) -> Work
     ensures { λ r. ⌜ r ≡ worked (Decoded.Known Opcode.StoreMemory) word pc alu o ⌝ }
 {
-    let address = (word % 256) as u8;
+    let address = reached_address(word);
     let value = o.x;
     Work {
         alu,
@@ -244,7 +245,7 @@ pub(crate) fn read_operands(
     let x = (w / 256 % 16) as usize;
     let y = (w / 16 % 16) as usize;
     let z = (w % 16) as usize;
-    let a = (w % 256) as usize;
+    let a = reached_address(w) as usize;
     Operands {
         cell: memory[a],
         x: registers[x],

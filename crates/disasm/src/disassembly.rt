@@ -12,6 +12,7 @@ use encoding::put_bytes;
 use isa::Decoded;
 use isa::Instruction;
 use isa::Opcode;
+use isa::TEXT_WIDTH;
 use isa::Text;
 use isa::digits_of;
 
@@ -191,7 +192,7 @@ pub fn disassemble_into(out: &mut [u8], at: usize, word: u16) -> u8
 pub fn disassemble(word: u16) -> Text
     ensures { λ r. ⌜ r ≡ text (disassembleText word) ⌝ }
 {
-    let mut bytes = [0u8; 32];
+    let mut bytes = [0u8; TEXT_WIDTH];
     let len = disassemble_into(&mut bytes, 0, word);
     Text { bytes, len }
 }

@@ -1,7 +1,8 @@
 // The registers and the memory address that an instruction names. Which digits an opcode uses is
 // told by a place, so that each question is a table over the opcodes.
 ghost use mathlib.Core.Path.{_≡_};
-ghost use Rattle.disasm.specs.Operands.{operandAt, writtenPlace, readPlace, memoryPlace, firstSource, secondSource, writtenRegister, readRegister, activeRegister, sourceRegisters, memoryOperand, bothOf, registerList};
+ghost use Rattle.disasm.specs.Operands.{operandAt, writtenPlace, readPlace, memoryPlace, firstSource, secondSource};
+ghost use Rattle.disasm.specs.Operands.{writtenRegister, readRegister, activeRegister, sourceRegisters, memoryOperand, bothOf, registerList};
 use isa::ByteOption;
 use isa::Decoded;
 use isa::Instruction;

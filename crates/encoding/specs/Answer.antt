@@ -3,17 +3,20 @@
 use Prim.Native.Nat.{ℕ, zero, suc}
 use mathlib.Core.List.{List}
 
--- by number: that of the refusal, 0 for none, and the length of what was written, 0 where it is refused
+-- what it answers, and the buffer that it leaves
+pub record Outcome (A : Type 0) : Type 0 where
+  pub answer : A
+  pub buffer : List ℕ
+
+abbrev pub outcome : {A : Type 0} → A → List ℕ → Outcome A
+outcome a b = record { answer = a; buffer = b }
+
+-- an answer by number: that of the refusal, 0 for none, and the length of what was written, 0 where it is refused
 pub record Told : Type 0 where
   pub refused : ℕ
   pub length : ℕ
 
--- and the buffer that it leaves
-pub record Outcome : Type 0 where
-  pub answer : Told
-  pub buffer : List ℕ
-
 -- the number of the refusal alone, and the buffer as it was; where there is none, the second
-abbrev pub unlessRefused : ℕ → List ℕ → Outcome → Outcome
+abbrev pub unlessRefused : ℕ → List ℕ → Outcome Told → Outcome Told
 unlessRefused zero out o = o
-unlessRefused (suc n) out o = record { answer = record { refused = suc n; length = 0 }; buffer = out }
+unlessRefused (suc n) out o = outcome (record { refused = suc n; length = 0 }) out

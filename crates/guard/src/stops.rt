@@ -4,8 +4,9 @@ ghost use Prim.Native.Nat.{_-_};
 ghost use lib.Dec.{eqb};
 ghost use Rattle.control.specs.Count.{overCounted};
 ghost use Rattle.marks.specs.Marks.{marked};
-ghost use Rattle.guard.specs.Stops.{reached, haltStop, verdictIf, runVerdictOf, told, refusalIn, numberIn, addressIn};
-ghost use Rattle.guard.specs.Stops.{stopNumber, haltedStop, isJump, hiddenJump, guardIf, verdictOf, passes};
+ghost use Rattle.guard.specs.Stops.{reached, haltStop, verdictIf, runCode, refusalIn, numberIn, addressIn};
+ghost use Rattle.guard.specs.Stops.{stopNumber, haltedStop, isJump, hiddenJump, guardIf};
+ghost use Rattle.guard.specs.Forms.{runVerdictOf, verdictOf, passes};
 use control::Counters;
 use control::Fault;
 use control::State;
@@ -33,7 +34,7 @@ pub enum RunStop {
 impl RunStop {
     // The number of the refusal, 0 where there is none.
     pub fn refusal(self) -> u8
-        ensures { λ r. ⌜ r ≡ refusalIn (told self) ⌝ }
+        ensures { λ r. ⌜ r ≡ refusalIn (runCode self) ⌝ }
     {
         match self {
             RunStop::Halted => 0,
@@ -47,7 +48,7 @@ impl RunStop {
 
     // The number of the stop, 0 beside a refusal.
     pub fn number(self) -> u8
-        ensures { λ r. ⌜ r ≡ numberIn (told self) ⌝ }
+        ensures { λ r. ⌜ r ≡ numberIn (runCode self) ⌝ }
     {
         match self {
             RunStop::Halted => 0,
@@ -61,7 +62,7 @@ impl RunStop {
 
     // The breakpoint that was met, 0 for any other stop.
     pub fn address(self) -> u8
-        ensures { λ r. ⌜ r ≡ addressIn (told self) ⌝ }
+        ensures { λ r. ⌜ r ≡ addressIn (runCode self) ⌝ }
     {
         match self {
             RunStop::Halted => 0,

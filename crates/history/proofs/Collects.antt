@@ -6,9 +6,12 @@ use Prim.Native.Nat.{ℕ, zero, suc, _+_, _-_, _≤_, _<_}
 use native.Mathlib.Numerals.{add-one}
 use native.Mathlib.Omega.{arith}
 use lib.Dec.{eqb, lit<}
-use lib.ListN.{length, take, drop, set, getD, replicate, length-append, length-replicate, drop-of-length-le}
+use lib.ListN.{length, take, drop, set, getD, replicate, length-append, drop-of-length-le}
 use lib.Seq.{drop-cons, set-at, take-append-seam}
-use Rattle.history.specs.Differences.{differ, padded, differencesOf, Ascending}
+use Rattle.isa.specs.Sizes.{memoryWords}
+use Rattle.isa.specs.Text.{padded}
+use Rattle.isa.proofs.Texts.{length-padded}
+use Rattle.history.specs.Differences.{differ, differencesOf, Ascending}
 
 -- the array holds the numbers found so far, zeros behind them; with what is left to find they are all
 pub record Found (n : ℕ) (array : List ℕ) (count : ℕ) (left all : List ℕ) : Type 0 where
@@ -93,23 +96,23 @@ below low high [] n h a i = zeros-below high n h i
 below low high (x ∷ l) n h a zero = a .1 .0
 below low high (x ∷ l) n h a (suc i) = below (suc x) high l n h (a .1 .1) i
 
-module _ (image memory : List ℕ) (h : length image ≤ 256) where
-  pub differences-ascending : Ascending 0 256 (differ 0 image memory)
-  differences-ascending = differ-ascending 0 256 image memory (omega arith)
+module _ (image memory : List ℕ) (h : length image ≤ memoryWords) where
+  pub differences-ascending : Ascending 0 memoryWords (differ 0 image memory)
+  differences-ascending = differ-ascending 0 memoryWords image memory (omega arith)
 
-  pub differences-count : differencesOf image memory .count ≤ 256
+  pub differences-count : differencesOf image memory .count ≤ memoryWords
   unfolding differencesOf
   differences-count = omega (arith, length-differ 0 image memory)
 
-  pub differences-long : length (differencesOf image memory .addresses) ≡ 256
-  unfolding differencesOf padded
-  differences-long = simp (length-append, length-replicate) (omega (arith, length-differ 0 image memory))
+  pub differences-long : length (differencesOf image memory .addresses) ≡ memoryWords
+  unfolding differencesOf
+  differences-long = length-padded memoryWords (differ 0 image memory) (omega (arith, length-differ 0 image memory))
 
   -- the first `count` addresses are the list
   pub differences-live : take (differencesOf image memory .count) (differencesOf image memory .addresses) ≡ differ 0 image memory
   unfolding differencesOf padded
-  differences-live = take-append-seam (differ 0 image memory) (replicate (256 - length (differ 0 image memory)) 0)
+  differences-live = take-append-seam (differ 0 image memory) (replicate (memoryWords - length (differ 0 image memory)) 0)
 
-  pub differences-bytes : (i : ℕ) → getD (differencesOf image memory .addresses) i 0 < 256
+  pub differences-below : (i : ℕ) → getD (differencesOf image memory .addresses) i 0 < memoryWords
   unfolding differencesOf padded
-  differences-bytes = below 0 256 (differ 0 image memory) (256 - length (differ 0 image memory)) (lit< tt) differences-ascending
+  differences-below = below 0 memoryWords (differ 0 image memory) (memoryWords - length (differ 0 image memory)) (lit< tt) differences-ascending

@@ -15,7 +15,7 @@ use Rattle.history.specs.Store.{limitOf, recordAt, pushCount, pushStore,
 use Rattle.history.specs.Rust.{rustPush, rustPop, rustLast, Call, playRust, undoneRust, History, empty, pushed, undone, play, undoneStore, Pushable, Same}
 use Rattle.history.specs.declared.snapshot.Snapshot.{Snapshot}
 use Rattle.history.proofs.Records.{snapshot-back, good-back}
-use Rattle.history.proofs.Stores.{served, length-push, push-newest, push-others, newest-held, newest-none}
+use Rattle.history.proofs.Stores.{push-served, length-push, push-newest, push-others, newest-held, newest-none}
 
 -- ---- the records as a list
 
@@ -75,7 +75,7 @@ module _ (d : List ℕ) (count : ℕ) (s : Snapshot) (f : Fits s) (some : record
   -- the records after a push are the Rust's list after its push
   pub records-pushed : recordsOf (pushStore d count s) (pushCount (length d) count) ≡ rustPush (limitOf (length d)) s (recordsOf d count)
   records-pushed =
-      let p = served d count s some held in
+      let p = push-served d count s some held in
       let k : ℕ = p .place in
       let g : ℕ = p .gone in
       let x : List ℕ = pushStore d count s in
@@ -88,9 +88,9 @@ module _ (d : List ℕ) (count : ℕ) (s : Snapshot) (f : Fits s) (some : record
       rw (p .count-is, add-one, records-last x 0 k, new, old)
       (sym (rust ∙ ap (λ (l : List Snapshot). l ++ (s ∷ [])) (ap (λ (m : ℕ). drop g (recordsFrom d 0 m)) n ∙ records-drop d g 0 k)))
     where
-      others : (n : ℕ) → n < served d count s some held .place → recordAt (pushStore d count s) (0 + n) ≡ recordAt d (0 + served d count s some held .gone + n)
+      others : (n : ℕ) → n < push-served d count s some held .place → recordAt (pushStore d count s) (0 + n) ≡ recordAt d (0 + push-served d count s some held .gone + n)
       others n h =
-          let e : n + served d count s some held .gone ≡ 0 + served d count s some held .gone + n = omega arith in
+          let e : n + push-served d count s some held .gone ≡ 0 + push-served d count s some held .gone + n = omega arith in
           rw (zero-add n) (push-others d count s f some held n h ∙ ap (recordAt d) e)
 
 -- ---- pop
@@ -138,7 +138,7 @@ newest-last d (suc k) held good = newest-found d k held (good (0 + k) (omega ari
 
 module _ (d : List ℕ) (count : ℕ) (s : Snapshot) (f : Fits s) (g : isGood s ≡ true) (some : recordLength ≤ length d) (held : count ≤ limitOf (length d)) where
   abbrev place : ℕ
-  place = served d count s some held .place
+  place = push-served d count s some held .place
 
   -- a push leaves records that `undo` takes
   good-pushed : AllGood d count → AllGood (pushStore d count s) (pushCount (length d) count)
@@ -146,13 +146,13 @@ module _ (d : List ℕ) (count : ℕ) (s : Snapshot) (f : Fits s) (g : isGood s 
     where
       go : (t : Bool) → ltb j place ≡ t → isRecord (recordAt (pushStore d count s) j) ≡ true
       go true t =
-          let p = served d count s some held in
+          let p = push-served d count s some held in
           let k : j < place = ltb-true j place t in
           let w : count ≡ place + p .gone = p .count-was in
           rw (push-others d count s f some held j k) (good (j + p .gone) (omega arith))
       go false t =
           let k : place ≤ j = ltb-false j place t in
-          let c : pushCount (length d) count ≡ place + 1 = served d count s some held .count-is in
+          let c : pushCount (length d) count ≡ place + 1 = push-served d count s some held .count-is in
           let e : j ≡ place = omega arith in
           rw (e, push-newest d count s f some held, ← append-nil (recordBytes s)) (good-back s f [] ∙ g)
 
@@ -160,7 +160,7 @@ same-pushed : {limit : ℕ} {h : History} {l : List Snapshot} (s : Snapshot) →
 same-pushed {limit} {h} {l} s f g m =
     let d : List ℕ = h .store in
     let n : length (pushStore d (h .count) s) ≡ length d = length-push d (h .count) s f (m .some) (m .held) in
-    let p = served d (h .count) s (m .some) (m .held) in
+    let p = push-served d (h .count) s (m .some) (m .held) in
     let r : p .place < limitOf (length d) = p .room in
     let c : pushCount (length d) (h .count) ≡ p .place + 1 = p .count-is in
     record {

@@ -138,8 +138,8 @@ pub record Served (d : List ℕ) (count : ℕ) (s : Snapshot) : Type 0 where
   pub room : place < limitOf (length d)
   pub stay : (j : ℕ) → j < place → recordAt base j ≡ recordAt d (j + gone)
 
-pub served : (d : List ℕ) (count : ℕ) (s : Snapshot) → recordLength ≤ length d → count ≤ limitOf (length d) → Served d count s
-served d count s some held = go (ltb count (limitOf (length d))) refl
+pub push-served : (d : List ℕ) (count : ℕ) (s : Snapshot) → recordLength ≤ length d → count ≤ limitOf (length d) → Served d count s
+push-served d count s some held = go (ltb count (limitOf (length d))) refl
   where
     go : (t : Bool) → ltb count (limitOf (length d)) ≡ t → Served d count s
     go true e =
@@ -173,29 +173,29 @@ served d count s some held = go (ltb count (limitOf (length d))) refl
         }
 
 module _ (d : List ℕ) (count : ℕ) (s : Snapshot) (f : Fits s) (some : recordLength ≤ length d) (held : count ≤ limitOf (length d)) where
-  push-room : served d count s some held .place < limitOf (length (served d count s some held .base))
-  push-room = rw (served d count s some held .length-is) (served d count s some held .room)
+  push-room : push-served d count s some held .place < limitOf (length (push-served d count s some held .base))
+  push-room = rw (push-served d count s some held .length-is) (push-served d count s some held .room)
 
   pub length-push : length (pushStore d count s) ≡ length d
   length-push =
-      let p = served d count s some held in
+      let p = push-served d count s some held in
       rw (p .store-is) (length-with (p .base) (p .place) s f push-room ∙ p .length-is)
 
   -- the new record is the pushed one's bytes, and each other is one that was there
-  pub push-newest : recordAt (pushStore d count s) (served d count s some held .place) ≡ recordBytes s
+  pub push-newest : recordAt (pushStore d count s) (push-served d count s some held .place) ≡ recordBytes s
   push-newest =
-      let p = served d count s some held in
+      let p = push-served d count s some held in
       rw (p .store-is) (record-put (p .base) (p .place) s f push-room)
 
-  pub push-others : (j : ℕ) → j < served d count s some held .place → recordAt (pushStore d count s) j ≡ recordAt d (j + served d count s some held .gone)
+  pub push-others : (j : ℕ) → j < push-served d count s some held .place → recordAt (pushStore d count s) j ≡ recordAt d (j + push-served d count s some held .gone)
   push-others j h =
-      let p = served d count s some held in
+      let p = push-served d count s some held in
       rw (p .store-is) (record-kept (p .base) (p .place) s f push-room j h ∙ p .stay j h)
 
   -- what `undo` takes after a push is what was pushed
   pub newest-pushed : isGood s ≡ true → newest (pushStore d count s) (pushCount (length d) count) ≡ found s
   newest-pushed g =
-      let p = served d count s some held in
+      let p = push-served d count s some held in
       let k : ℕ = p .place in
       let l : length (pushStore d count s) ≡ length d = length-push in
       let e : k + 1 - 1 ≡ k = omega arith in

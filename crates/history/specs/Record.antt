@@ -1,6 +1,6 @@
 -- A record: one snapshot in 576 bytes (01, section 7). The fields in the Rust's order, numbers high byte first.
 -- Assumes nothing.
-use Prim.Native.Nat.{ℕ, _^_, _<_}
+use Prim.Native.Nat.{ℕ, _+_, _*_, _^_, _<_}
 use mathlib.Core.Path.{_≡_}
 use mathlib.Core.Bool.{Bool, true, false, cond, _&&_}
 use mathlib.Core.List.{List, _++_}
@@ -8,86 +8,152 @@ use lib.Dec.{eqb, leb}
 use lib.ListN.{length, drop, getD, replicate}
 use Rattle.isa.specs.Sizes.{memoryWords, registerCount}
 use Rattle.encoding.specs.Bytes.{bigEndian, bigEndians, number, numbers}
+use Rattle.control.specs.Address.{addressWidth}
+use Rattle.control.specs.Control.{freshControl, withPc, withIr, withMar, withMdr, withAddress, toTick, withExecuteTicks, withHalted}
 use Rattle.control.specs.Lawful.{lawful}
-use Rattle.control.specs.Codes.{faultCode}
-use Rattle.control.specs.declared.codes.FaultCode.{FaultCode}
+use Rattle.control.specs.Codes.{faultCode, faultBytes, faultOf}
 use Rattle.control.specs.declared.control.Control.{Control}
 use Rattle.control.specs.declared.control.Fault.{Fault}
-use Rattle.control.specs.declared.control.Fault.the-variants.{Healthy, UnknownInstruction, StepBudgetExhausted}
+use Rattle.control.specs.declared.control.Fault.the-variants.{Healthy}
 use Rattle.history.specs.declared.snapshot.Newest.{Newest}
 use Rattle.history.specs.declared.snapshot.Snapshot.{Snapshot}
 
+-- ---- how many bytes a field has
+
+-- PC, instruction address, tick, execute ticks, halted, a fault's kind and address
+abbrev pub byteWidth : ℕ
+byteWidth = 1
+
+-- IR, MDR, a register, a fault's word, a word of memory
+abbrev pub wordWidth : ℕ
+wordWidth = 2
+
+-- instructions, micro operations
+abbrev pub counterWidth : ℕ
+counterWidth = 8
+
+-- the zero bytes at the end
+abbrev pub paddingWidth : ℕ
+paddingWidth = 2
+
+-- ---- where each begins: behind the one before it
+
+abbrev pub pcAt : ℕ
+pcAt = 0
+
+abbrev pub irAt : ℕ
+irAt = pcAt + byteWidth
+
+abbrev pub registersAt : ℕ
+registersAt = irAt + wordWidth
+
+abbrev pub marAt : ℕ
+marAt = registersAt + wordWidth * registerCount
+
+abbrev pub mdrAt : ℕ
+mdrAt = marAt + addressWidth
+
+abbrev pub instructionAddressAt : ℕ
+instructionAddressAt = mdrAt + wordWidth
+
+abbrev pub tickAt : ℕ
+tickAt = instructionAddressAt + byteWidth
+
+abbrev pub executeTicksAt : ℕ
+executeTicksAt = tickAt + byteWidth
+
+abbrev pub haltedAt : ℕ
+haltedAt = executeTicksAt + byteWidth
+
+-- the fault: its kind, its word, its address
+abbrev pub faultKindAt : ℕ
+faultKindAt = haltedAt + byteWidth
+
+abbrev pub faultWordAt : ℕ
+faultWordAt = faultKindAt + byteWidth
+
+abbrev pub faultAddressAt : ℕ
+faultAddressAt = faultWordAt + wordWidth
+
+abbrev pub instructionsAt : ℕ
+instructionsAt = faultAddressAt + byteWidth
+
+abbrev pub microOperationsAt : ℕ
+microOperationsAt = instructionsAt + counterWidth
+
+abbrev pub memoryAt : ℕ
+memoryAt = microOperationsAt + counterWidth
+
+abbrev pub paddingAt : ℕ
+paddingAt = memoryAt + wordWidth * memoryWords
+
+-- 576
 abbrev pub recordLength : ℕ
-recordLength = 576
+recordLength = paddingAt + paddingWidth
 
 -- ---- written
 
 abbrev pub bit : Bool → ℕ
 bit b = cond b 1 0
 
--- bytes 0 to 34: PC, IR, the registers
+-- from PC on: PC, IR, the registers
 unfoldable pub frontBytes : ℕ → ℕ → List ℕ → List ℕ
-frontBytes pc ir registers = bigEndian 1 pc ++ (bigEndian 2 ir ++ bigEndians 2 registers)
+frontBytes pc ir registers = bigEndian byteWidth pc ++ (bigEndian wordWidth ir ++ bigEndians wordWidth registers)
 
--- bytes 35 to 41: MAR, MDR, instruction address, tick, execute ticks, halted
+-- from MAR on: MAR, MDR, instruction address, tick, execute ticks, halted
 unfoldable pub stateBytes : Control → List ℕ
 stateBytes c =
-    bigEndian 1 (c .mar)
-    ++ (bigEndian 2 (c .mdr)
-    ++ (bigEndian 1 (c .«instruction_address»)
-    ++ (bigEndian 1 (c .tick) ++ (bigEndian 1 (c .«execute_ticks») ++ bigEndian 1 (bit (c .halted))))))
+    bigEndian addressWidth (c .mar)
+    ++ (bigEndian wordWidth (c .mdr)
+    ++ (bigEndian byteWidth (c .«instruction_address»)
+    ++ (bigEndian byteWidth (c .tick)
+    ++ (bigEndian byteWidth (c .«execute_ticks») ++ bigEndian byteWidth (bit (c .halted))))))
 
--- bytes 42 to 61: the fault, instructions, micro operations
-unfoldable pub countBytes : FaultCode → ℕ → ℕ → List ℕ
-countBytes f instructions operations =
-    bigEndian 1 (f .kind) ++ (bigEndian 2 (f .word) ++ (bigEndian 1 (f .address) ++ (bigEndian 8 instructions ++ bigEndian 8 operations)))
+-- from the fault on: its kind, word and address, instructions, micro operations
+unfoldable pub countBytes : Fault → ℕ → ℕ → List ℕ
+countBytes f instructions operations = faultBytes f ++ (bigEndian counterWidth instructions ++ bigEndian counterWidth operations)
 
--- bytes 62 to 575: memory, two zero bytes
+-- from memory on: memory, two zero bytes
 unfoldable pub memoryBytes : List ℕ → List ℕ
-memoryBytes memory = bigEndians 2 memory ++ bigEndian 2 0
+memoryBytes memory = bigEndians wordWidth memory ++ bigEndian paddingWidth 0
 
 -- the four one behind the other
 unfoldable pub recordBytes : Snapshot → List ℕ
 recordBytes s =
     frontBytes (s .control .pc) (s .control .ir) (s .registers)
     ++ (stateBytes (s .control)
-    ++ (countBytes (faultCode (s .fault)) (s .instructions) (s .«micro_operations») ++ memoryBytes (s .memory)))
+    ++ (countBytes (s .fault) (s .instructions) (s .«micro_operations») ++ memoryBytes (s .memory)))
 
 -- ---- read
 
 unfoldable pub controlIn : List ℕ → Control
-controlIn l = record {
-  ir = number 2 (drop 1 l);
-  mdr = number 2 (drop 36 l);
-  pc = number 1 (drop 0 l);
-  mar = number 1 (drop 35 l);
-  «instruction_address» = number 1 (drop 38 l);
-  tick = number 1 (drop 39 l);
-  «execute_ticks» = number 1 (drop 40 l);
-  halted = eqb (number 1 (drop 41 l)) 1;
-}
-
--- word and address count for nothing under kind 0
-abbrev pub faultOf : ℕ → ℕ → ℕ → Fault
-faultOf kind w a = cond (eqb kind 1) (UnknownInstruction w a) (cond (eqb kind 2) (StepBudgetExhausted w a) Healthy)
+controlIn l =
+    withPc (number byteWidth (drop pcAt l))
+    (withIr (number wordWidth (drop irAt l))
+    (withMar (number addressWidth (drop marAt l))
+    (withMdr (number wordWidth (drop mdrAt l))
+    (withAddress (number byteWidth (drop instructionAddressAt l))
+    (toTick (number byteWidth (drop tickAt l))
+    (withExecuteTicks (number byteWidth (drop executeTicksAt l))
+    (withHalted (eqb (number byteWidth (drop haltedAt l)) 1) freshControl)))))))
 
 unfoldable pub faultIn : List ℕ → Fault
-faultIn l = faultOf (number 1 (drop 42 l)) (number 2 (drop 43 l)) (number 1 (drop 45 l))
+faultIn l = faultOf (number byteWidth (drop faultKindAt l)) (number wordWidth (drop faultWordAt l)) (number byteWidth (drop faultAddressAt l))
 
--- the last two bytes are not read
+-- the bytes behind memory are not read
 unfoldable pub snapshotIn : List ℕ → Snapshot
 snapshotIn l = record {
-  registers = numbers 2 registerCount (drop 3 l);
-  memory = numbers 2 memoryWords (drop 62 l);
+  registers = numbers wordWidth registerCount (drop registersAt l);
+  memory = numbers wordWidth memoryWords (drop memoryAt l);
   control = controlIn l;
   fault = faultIn l;
-  instructions = number 8 (drop 46 l);
-  «micro_operations» = number 8 (drop 54 l);
+  instructions = number counterWidth (drop instructionsAt l);
+  «micro_operations» = number counterWidth (drop microOperationsAt l);
 }
 
 -- whether the bytes are a record's: a halted byte and a fault's kind that are known, and a tick that is not refused 8
 unfoldable pub isRecord : List ℕ → Bool
-isRecord l = leb (number 1 (drop 41 l)) 1 && (leb (number 1 (drop 42 l)) 2 && lawful (controlIn l))
+isRecord l = leb (number byteWidth (drop haltedAt l)) 1 && (leb (number byteWidth (drop faultKindAt l)) 2 && lawful (controlIn l))
 
 -- ---- what `undo` finds
 
@@ -98,7 +164,7 @@ unfoldable pub blank : Snapshot
 blank = record {
   registers = replicate registerCount 0;
   memory = replicate memoryWords 0;
-  control = record { ir = 0; mdr = 0; pc = 0; mar = 0; «instruction_address» = 0; tick = 0; «execute_ticks» = 0; halted = false };
+  control = freshControl;
   fault = Healthy;
   instructions = 0;
   «micro_operations» = 0;
@@ -119,7 +185,7 @@ pub record Fits (s : Snapshot) : Type 0 where
   pub ir : s .control .ir < 65536
   pub sixteen : length (s .registers) ≡ registerCount
   pub registers : (i : ℕ) → getD (s .registers) i 0 < 65536
-  pub mar : s .control .mar < 256
+  pub mar : s .control .mar < 256 ^ addressWidth
   pub mdr : s .control .mdr < 65536
   pub address : s .control .«instruction_address» < 256
   pub tick : s .control .tick < 256

@@ -9,7 +9,8 @@ use Rattle.history.specs.declared.snapshot.Snapshot.{Snapshot}
 use Rattle.history.specs.Record.{recordLength}
 use Rattle.history.specs.Store.{limitOf}
 
--- 7: the store holds no record; 8: it is no machine, or it has more records than the store holds. The store's length, whether it is a machine, its number of records
+-- 7: the store holds no record; 8: it is no machine, or it has more records than the store holds.
+-- The store's length, whether it is a machine, its number of records
 abbrev pub storeRefusalIf : ℕ → Bool → ℕ → ℕ
 storeRefusalIf n ok k = cond (ltb n recordLength) 7 (cond ok (cond (ltb (limitOf n) k) 8 0) 8)
 
@@ -23,4 +24,9 @@ restoredState s t = record { control = s .control; fault = s .fault; «last_tran
 
 -- the bus counters stay
 abbrev pub restoredCounters : Snapshot → Counters → Counters
-restoredCounters s c = record { instructions = s .instructions; «micro_operations» = s .«micro_operations»; «bus_reads» = c .«bus_reads»; «bus_writes» = c .«bus_writes» }
+restoredCounters s c = record {
+  instructions = s .instructions;
+  «micro_operations» = s .«micro_operations»;
+  «bus_reads» = c .«bus_reads»;
+  «bus_writes» = c .«bus_writes»;
+}

@@ -1,4 +1,4 @@
-// The history of the machine in a lent store (01, section 7): records of 576 bytes, oldest first, and
+// The history of the machine in a lent store (01, section 7): records of one length, oldest first, and
 // what `undo` needs beside them.
 mod differing;
 mod layout;

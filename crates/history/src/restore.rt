@@ -2,6 +2,7 @@
 ghost use mathlib.Core.Path.{_≡_};
 ghost use Prim.Native.Nat.{_-_};
 ghost use Rattle.history.specs.Restore.{storeRefusalIf, undoRefusalIf, restoredState, restoredCounters};
+use crate::layout::RECORD_LENGTH;
 use crate::snapshot::Snapshot;
 use crate::store::history_limit;
 use control::Counters;
@@ -11,7 +12,7 @@ use control::State;
 pub fn store_refusal(good: bool, len: usize, count: usize) -> u8
     ensures { λ r. ⌜ r ≡ storeRefusalIf len good count ⌝ }
 {
-    if len < 576 {
+    if len < RECORD_LENGTH {
         return 7;
     }
     if !good {

@@ -1,4 +1,4 @@
-// The records in the store: the oldest at byte 0, each next 576 bytes further.
+// The records in the store: the oldest at byte 0, each next one record's length further.
 ghost use mathlib.Core.Path.{_≡_};
 ghost use mathlib.Core.List.{_++_};
 ghost use Prim.Native.Nat.{_+_, _≤_};
@@ -12,6 +12,7 @@ use crate::layout::encode;
 use crate::snapshot::Newest;
 use crate::snapshot::Snapshot;
 use crate::snapshot::no_record;
+use isa::least;
 
 // The Rust's limit, whatever the store holds.
 const HISTORY_LIMIT: usize = 20000;
@@ -20,11 +21,7 @@ const HISTORY_LIMIT: usize = 20000;
 pub fn history_limit(len: usize) -> usize
     ensures { λ r. ⌜ r ≡ limitOf len ⌝ }
 {
-    let held = len / RECORD_LENGTH;
-    if held < HISTORY_LIMIT {
-        return held;
-    }
-    HISTORY_LIMIT
+    least(len / RECORD_LENGTH, HISTORY_LIMIT)
 }
 
 // The first `n` bytes become the `n` bytes that lie one record further.

@@ -1,15 +1,13 @@
 -- The laws of templates (`specs/Format.antt`).
 -- Assumes nothing.
-use Prim.Native.Nat.{ℕ, zero, suc, _-_, _≤_}
-use Prim.Native.Char.{code}
-use native.Mathlib.Omega.{arith}
-use mathlib.Core.Path.{_≡_, refl, ap, _∙_}
-use mathlib.Core.List.{List, [], _∷_, _++_, map}
-use lib.ListN.{length, getD, take, drop, replicate, length-map, length-drop, List·getD-map}
+use Prim.Native.Nat.{ℕ, _≤_}
+use mathlib.Core.Path.{_≡_, ap, _∙_}
+use mathlib.Core.List.{List}
+use lib.ListN.{length, getD, take, length-map, List·getD-map}
 use lib.Seq.{take-all}
 use Rattle.isa.specs.declared.text.Text.{Text}
-use Rattle.isa.specs.Text.{ascii, text}
-use Rattle.isa.specs.Format.{hex4, fill, fillByte, hexWidth, formatHex}
+use Rattle.isa.specs.Text.{text}
+use Rattle.isa.specs.Format.{hex4, fill, fillByte}
 
 pub length-fill : (w : ℕ) (s : List ℕ) → length (fill w s) ≡ length s
 unfolding fill
@@ -19,32 +17,6 @@ pub getD-fill : (w : ℕ) (s : List ℕ) (i : ℕ) → getD (fill w s) i 0 ≡ f
 unfolding fill
 getD-fill w s i = List·getD-map (fillByte (hex4 w)) s i 0
 
--- a part of a template
-drop-map : (f : ℕ → ℕ) (k : ℕ) (s : List ℕ) → map f (drop k s) ≡ drop k (map f s)
-drop-map f zero s = refl
-drop-map f (suc k) [] = refl
-drop-map f (suc k) (x ∷ s) = drop-map f k s
-
-pub fill-drop : (w k : ℕ) (s : List ℕ) → fill w (drop k s) ≡ drop k (fill w s)
-unfolding fill
-fill-drop w k s = drop-map (fillByte (hex4 w)) k s
-
 -- the text of a template that a text has room for
 pub filled-whole : (w : ℕ) (s : List ℕ) {r : Text} → length s ≤ 32 → r ≡ text (take 32 (fill w s)) → r ≡ text (fill w s)
 filled-whole w s h e = e ∙ ap text (take-all 32 (fill w s) (rw length-fill h))
-
-filled-zeros : (w : ℕ) → fill w (ascii "0000000000000000000000000000Wxyz") ≡ replicate 28 (code "0") ++ hex4 w
-unfolding fill
-filled-zeros w = refl
-
--- the end of the template for hexadecimal numbers, from a place on
-pub hex-part : (w digits n : ℕ) → n ≡ hexWidth w digits
-    → take 32 (fill w (take (32 - (32 - n)) (drop (32 - n) (ascii "0000000000000000000000000000Wxyz")))) ≡ formatHex w digits
-unfolding formatHex
-hex-part w digits n e =
-    let t : List ℕ = ascii "0000000000000000000000000000Wxyz" in
-    let k : ℕ = 32 - n in
-    let l : length (drop k t) ≡ 32 - k = length-drop k t in
-    let m : length (fill w (drop k t)) ≡ 32 - k = length-fill w (drop k t) ∙ l in
-    rw (take-all (32 - k) (drop k t) (omega arith), take-all 32 (fill w (drop k t)) (omega arith), fill-drop w k t, ← e)
-    (ap (drop k) (filled-zeros w))

@@ -1,13 +1,14 @@
 -- The laws of texts: what a struct holds, and a loop that fills an array of zeros from the front.
 -- Assumes nothing.
 use Prim.Native.Char.{code}
-use Prim.Native.Nat.{ℕ, zero, suc, _+_, _-_, _≤_, _<_}
+use Prim.Native.Nat.{ℕ, zero, suc, _+_, _-_, _≤_, _<_, min}
 use native.Mathlib.Omega.{arith}
 use native.Mathlib.Numerals.{add-one}
-use mathlib.Core.Logic.{_⊎_, ⊎-elim}
+use mathlib.Core.Bool.{Bool, true, false}
 use mathlib.Core.Path.{_≡_, refl, sym, ap, _∙_}
 use mathlib.Core.List.{List, [], _∷_, _++_, append-assoc}
-use borrow.Author.Tests.{ne-eqb}
+use borrow.Author.Tests.{ne-eqb, leb-true, leb-false}
+use lib.Dec.{leb}
 use lib.ListN.{length, getD, take, set, replicate, length-append, length-replicate}
 use lib.Seq.{take-append-seam, set-append-seam, take-suc, take-all, length-take-le}
 use Rattle.isa.specs.Text.{padded, text, longText, textOf, trimmed, unlessSpace}
@@ -45,29 +46,32 @@ filled-next n xs i h k e =
     rw (e, add-one, take-suc xs i 0 k) (rw l at p)
 
 -- its end, after m turns, m the smaller of n and the length of xs
-abbrev Least : ℕ → ℕ → ℕ → Type 0
-Least m a b = (m ≤ a) × (m ≤ b) × ((b ≤ m) ⊎ (a ≤ m))
+taken : (n : ℕ) (xs : List ℕ) (m : ℕ) → m ≡ min (length xs) n → take m xs ≡ take n xs
+taken n xs m h = go (leb n m) refl
+  where
+    go : (b : Bool) → leb n m ≡ b → take m xs ≡ take n xs
+    go true e =
+        let f : n ≤ m = leb-true n m e in
+        let full : m ≡ n = omega arith in
+        ap (λ (k : ℕ). take k xs) full
+    go false e =
+        let f : m < n = leb-false n m e in
+        take-all m xs (omega arith) ∙ sym (take-all n xs (omega arith))
 
-taken : (n : ℕ) (xs : List ℕ) (m : ℕ) → Least m (length xs) n → take m xs ≡ take n xs
-taken n xs m h =
-    let full : n ≤ m → take m xs ≡ take n xs = λ a. let e : m ≡ n = omega arith in ap (λ (k : ℕ). take k xs) e in
-    let short : length xs ≤ m → take m xs ≡ take n xs = λ a. take-all m xs a ∙ sym (take-all n xs (omega arith)) in
-    ⊎-elim full short (h .2)
-
-filled-end : (n : ℕ) (xs : List ℕ) (m i : ℕ) {bytes : List ℕ} → i ≡ m → Least m (length xs) n → bytes ≡ padded n (take i xs)
+filled-end : (n : ℕ) (xs : List ℕ) (m i : ℕ) {bytes : List ℕ} → i ≡ m → m ≡ min (length xs) n → bytes ≡ padded n (take i xs)
     → (bytes ≡ padded n (take n xs)) × (i ≡ length (take n xs))
 filled-end n xs m i e h b =
     let t : take i xs ≡ take n xs = ap (λ (k : ℕ). take k xs) e ∙ taken n xs m h in
     (b ∙ ap (padded n) t, sym (length-take-le i xs (omega arith)) ∙ ap length t)
 
-pub filled-text : (xs : List ℕ) (m i : ℕ) {bytes : List ℕ} → i ≡ m → Least m (length xs) 32 → bytes ≡ padded 32 (take i xs)
+pub filled-text : (xs : List ℕ) (m i : ℕ) {bytes : List ℕ} → i ≡ m → m ≡ min (length xs) 32 → bytes ≡ padded 32 (take i xs)
     → record { bytes = bytes; len = i } ≡ text (take 32 xs)
 unfolding text
 filled-text xs m i e h b =
     let f = filled-end 32 xs m i e h b in
     λ j. record { bytes = f .0 j; len = f .1 j }
 
-pub filled-long : (xs : List ℕ) (m i : ℕ) {bytes : List ℕ} → i ≡ m → Least m (length xs) 80 → bytes ≡ padded 80 (take i xs)
+pub filled-long : (xs : List ℕ) (m i : ℕ) {bytes : List ℕ} → i ≡ m → m ≡ min (length xs) 80 → bytes ≡ padded 80 (take i xs)
     → record { bytes = bytes; len = i } ≡ longText (take 80 xs)
 unfolding longText
 filled-long xs m i e h b =

@@ -39,4 +39,4 @@ abbrev pub instruction : ℕ → Instruction
 instruction w = record { raw = w }
 
 abbrev pub xyzOf : ℕ → Xyz
-xyzOf w = record { 0 = digitX w; 1 = digitY w; 2 = digitZ w }
+xyzOf w = record { x = digitX w; y = digitY w; z = digitZ w }

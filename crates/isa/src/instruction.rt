@@ -3,6 +3,7 @@ ghost use mathlib.Core.Path.{_≡_};
 ghost use Rattle.isa.specs.Text.{text};
 ghost use Rattle.isa.specs.Opcode.{nibbleOf};
 ghost use Rattle.isa.specs.Word.{digitW, digitX, digitY, digitZ, byteYZ, nibblesOf, decodeWord, wordOf, instruction, xyzOf};
+ghost use Rattle.isa.specs.Nibbles.{unusedNibbles};
 ghost use Rattle.isa.specs.Format.{hex4};
 use crate::digits::format_word;
 use crate::opcode::Decoded;
@@ -15,7 +16,11 @@ pub struct Instruction {
 }
 
 // The operand triple x, y, z: the Rust's tuple.
-pub struct Xyz(pub u8, pub u8, pub u8);
+pub struct Xyz {
+    pub x: u8,
+    pub y: u8,
+    pub z: u8,
+}
 
 impl Instruction {
     // Wrap a raw 16-bit machine code word.
@@ -98,7 +103,11 @@ impl Instruction {
     pub fn xyz(self) -> Xyz
         ensures { λ r. ⌜ r ≡ xyzOf (self .raw) ⌝ }
     {
-        Xyz(self.x(), self.y(), self.z())
+        Xyz {
+            x: self.x(),
+            y: self.y(),
+            z: self.z(),
+        }
     }
 
     // The four hexadecimal digits of the word, most significant first.
@@ -106,6 +115,17 @@ impl Instruction {
         ensures { λ r. ⌜ r ≡ nibblesOf (self .raw) ⌝ }
     {
         [self.opcode_nibble(), self.x(), self.y(), self.z()]
+    }
+
+    // The digits that the opcode does not use, in their places, and 0 for all others.
+    pub fn unused_nibbles(self) -> u16
+        ensures { λ r. ⌜ r ≡ unusedNibbles (self .raw) ⌝ }
+    {
+        let decoded = self.opcode();
+        match decoded {
+            Decoded::Known(opcode) => opcode.unused(self.raw),
+            Decoded::Unknown => 0,
+        }
     }
 
     // The word's digits as a text: the Rust's `Display`.

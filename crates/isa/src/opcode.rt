@@ -2,7 +2,9 @@
 ghost use mathlib.Core.Path.{_≡_};
 ghost use Prim.Native.Nat.{_%_, _<_};
 ghost use Rattle.isa.specs.Text.{ascii, text, longText};
-ghost use Rattle.isa.specs.Opcode.{opcodes, decodeNibble, nibbleOf, indexOf, mnemonicOf, encodingOf, syntaxOf, descriptionOf, cppOf, nameOf, groupOf, groups, labelOf};
+ghost use Rattle.isa.specs.Opcode.{opcodes, decodeNibble, nibbleOf, indexOf, groupOf, groups, labelOf};
+ghost use Rattle.isa.specs.Opcode.{mnemonicOf, encodingOf, syntaxOf, descriptionOf, cppOf, nameOf};
+ghost use Rattle.isa.specs.Nibbles.{unusedOf};
 use crate::text::LongText;
 use crate::text::Text;
 
@@ -205,6 +207,27 @@ impl Opcode {
             Opcode::Xor => 0xC,
             Opcode::Jump => 0xD,
             Opcode::Halt => 0xE,
+        }
+    }
+
+    // The digits of a word that the opcode does not use, in their places, and 0 for all others.
+    pub fn unused(self, word: u16) -> u16
+        ensures { λ r. ⌜ r ≡ unusedOf self word ⌝ }
+    {
+        match self {
+            Opcode::LoadImmediate => 0,
+            Opcode::LoadRegister => word / 256 % 16 * 256,
+            Opcode::LoadMemory => 0,
+            Opcode::StoreMemory => 0,
+            Opcode::Add => 0,
+            Opcode::Negate => word / 256 % 16 * 256 + word % 16,
+            Opcode::ShiftRight => 0,
+            Opcode::ShiftLeft => 0,
+            Opcode::And => 0,
+            Opcode::Or => 0,
+            Opcode::Xor => 0,
+            Opcode::Jump => 0,
+            Opcode::Halt => word % 4096,
         }
     }
 

@@ -1,13 +1,13 @@
 // Texts by value. Rattle has no strings, so a text is an array and the number of its live bytes.
 ghost use mathlib.Core.Path.{_≡_};
-ghost use mathlib.Core.Logic.{_⊎_};
-ghost use Prim.Native.Nat.{_≤_};
+ghost use Prim.Native.Nat.{_≤_, min};
 ghost use lib.ListN.{length, take};
 ghost use Rattle.isa.specs.Text.{text, longText, trimmed};
+use crate::TEXT_WIDTH;
 
 // The smaller of two lengths.
-pub(crate) fn least(a: usize, b: usize) -> usize
-    ensures { λ r. ⌜ (r ≤ a) × (r ≤ b) × ((b ≤ r) ⊎ (a ≤ r)) ⌝ }
+pub fn least(a: usize, b: usize) -> usize
+    ensures { λ r. ⌜ r ≡ min a b ⌝ }
 {
     if a < b { a } else { b }
 }
@@ -29,7 +29,7 @@ fn live_length(s: &[u8]) -> usize
 
 // A text of at most 32 bytes; the bytes past `len` are zero.
 pub struct Text {
-    pub bytes: [u8; 32],
+    pub bytes: [u8; TEXT_WIDTH],
     pub len: u8,
 }
 
@@ -38,8 +38,8 @@ impl Text {
     pub fn from_bytes(s: &[u8]) -> Text
         ensures { λ r. ⌜ r ≡ text (take 32 (now (s .entry))) ⌝ }
     {
-        let mut bytes = [0u8; 32];
-        let n = least(s.len(), 32);
+        let mut bytes = [0u8; TEXT_WIDTH];
+        let n = least(s.len(), TEXT_WIDTH);
         let mut i = 0;
         while i < n {
             bytes[i] = s[i];

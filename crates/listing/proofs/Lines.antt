@@ -14,16 +14,18 @@ use Rattle.isa.specs.declared.opcode.Opcode.the-variants.{LoadImmediate, LoadRe
 use Rattle.isa.specs.declared.opcode.Decoded.{Decoded}
 use Rattle.isa.specs.declared.opcode.Decoded.the-variants.{Known, Unknown}
 use Rattle.isa.specs.declared.text.Text.{Text}
-use Rattle.isa.specs.Opcode.{decodeNibble, digits}
 use Rattle.isa.specs.Text.{ascii, spaced, text, textOf}
-use Rattle.isa.specs.Word.{digitW, byteYZ, decodeWord}
+use Rattle.isa.specs.Word.{byteYZ, decodeWord}
 use Rattle.isa.specs.Format.{fill}
 use Rattle.isa.proofs.Texts.{textOf-text, take-replicate}
 use Rattle.isa.proofs.Fills.{length-fill, filled-whole}
 use Rattle.encoding.specs.Bytes.{over, written}
 use Rattle.encoding.proofs.Written.{over-over, writtens-eq}
 use Rattle.disasm.specs.Disassembly.{template}
-use Rattle.listing.specs.Listing.{refers, refersTo, referenced, labelled, otherTemplate, otherText, listingTemplate, listingText, labelText, lineFront, lineBack, line, lineOf}
+use Rattle.listing.specs.declared.labels.Reference.{Reference}
+use Rattle.listing.specs.declared.labels.Reference.the-variants.{Loads, Stores, Jumps, None}
+use Rattle.listing.specs.Listing.{listingWords, referenceOf, refers, refersTo, referenced, labelled, otherTemplate, otherText}
+use Rattle.listing.specs.Listing.{referenceTemplate, listingTemplate, listingText, labelText, lineFront, lineBack, line, lineOf}
 
 -- ---- labels
 
@@ -50,7 +52,7 @@ labelled-more xs w a = ap (cond (eqb a 0) true) (referenced-more xs w a) ∙ or-
 
 -- the table says of each address whether it has a label
 abbrev pub Labels : List Bool → List ℕ → Type 0
-Labels t ws = (a : ℕ) → a < 256 → getD t a false ≡ labelled ws a
+Labels t ws = (a : ℕ) → a < listingWords → getD t a false ≡ labelled ws a
 
 pub labels-none : Labels (true ∷ replicate 255 false) []
 unfolding labelled referenced
@@ -61,12 +63,12 @@ pub length-noted : (b : Bool) (t : List Bool) (y : ℕ) → length (cond b (set 
 length-noted true t y = length-set t y true
 length-noted false t y = refl
 
-module _ (t : List Bool) (xs : List ℕ) (w : ℕ) (h : Labels t xs) (l : length t ≡ 256) (y : byteYZ w < 256) where
-  named : (a : ℕ) → a < 256 → (v : Bool) → eqb (byteYZ w) a ≡ v → getD (set t (byteYZ w) true) a false ≡ cond (labelled xs a) true v
+module _ (t : List Bool) (xs : List ℕ) (w : ℕ) (h : Labels t xs) (l : length t ≡ listingWords) (y : byteYZ w < listingWords) where
+  named : (a : ℕ) → a < listingWords → (v : Bool) → eqb (byteYZ w) a ≡ v → getD (set t (byteYZ w) true) a false ≡ cond (labelled xs a) true v
   named a k true e = rw (← (eqb-true (byteYZ w) a e)) (getD-set-same t (byteYZ w) true false (omega arith) ∙ or-any (labelled xs (byteYZ w)))
   named a k false e = getD-set-other t (byteYZ w) a true false (λ q. eqb-false (byteYZ w) a e (sym q)) ∙ h a k ∙ or-none (labelled xs a)
 
-  noted : (a : ℕ) → a < 256 → (b : Bool) → getD (cond b (set t (byteYZ w) true) t) a false ≡ cond (labelled xs a) true (cond b (eqb (byteYZ w) a) false)
+  noted : (a : ℕ) → a < listingWords → (b : Bool) → getD (cond b (set t (byteYZ w) true) t) a false ≡ cond (labelled xs a) true (cond b (eqb (byteYZ w) a) false)
   noted a k true = named a k (eqb (byteYZ w) a) refl
   noted a k false = h a k ∙ or-none (labelled xs a)
 
@@ -94,77 +96,37 @@ other-short (Known Jump) = lit≤ tt
 other-short (Known Halt) = lit≤ tt
 other-short Unknown = lit≤ tt
 
-template-short : (b : Bool) (d : Decoded) → length (ascii (listingTemplate b d)) ≤ 26
-unfolding listingTemplate
-template-short true (Known LoadImmediate) = other-short (Known LoadImmediate)
-template-short false (Known LoadImmediate) = other-short (Known LoadImmediate)
-template-short true (Known LoadRegister) = other-short (Known LoadRegister)
-template-short false (Known LoadRegister) = other-short (Known LoadRegister)
-template-short true (Known LoadMemory) = lit≤ tt
-template-short false (Known LoadMemory) = lit≤ tt
-template-short true (Known StoreMemory) = lit≤ tt
-template-short false (Known StoreMemory) = lit≤ tt
-template-short true (Known Add) = other-short (Known Add)
-template-short false (Known Add) = other-short (Known Add)
-template-short true (Known Negate) = other-short (Known Negate)
-template-short false (Known Negate) = other-short (Known Negate)
-template-short true (Known ShiftRight) = other-short (Known ShiftRight)
-template-short false (Known ShiftRight) = other-short (Known ShiftRight)
-template-short true (Known ShiftLeft) = other-short (Known ShiftLeft)
-template-short false (Known ShiftLeft) = other-short (Known ShiftLeft)
-template-short true (Known And) = other-short (Known And)
-template-short false (Known And) = other-short (Known And)
-template-short true (Known Or) = other-short (Known Or)
-template-short false (Known Or) = other-short (Known Or)
-template-short true (Known Xor) = other-short (Known Xor)
-template-short false (Known Xor) = other-short (Known Xor)
-template-short true (Known Jump) = lit≤ tt
-template-short false (Known Jump) = lit≤ tt
-template-short true (Known Halt) = other-short (Known Halt)
-template-short false (Known Halt) = other-short (Known Halt)
-template-short true Unknown = other-short Unknown
-template-short false Unknown = other-short Unknown
+template-short : (b : Bool) (k : Reference) (d : Decoded) → length (ascii (referenceTemplate b k (otherTemplate d))) ≤ 26
+template-short true Loads d = lit≤ tt
+template-short false Loads d = lit≤ tt
+template-short true Stores d = lit≤ tt
+template-short false Stores d = lit≤ tt
+template-short true Jumps d = lit≤ tt
+template-short false Jumps d = lit≤ tt
+template-short true None d = other-short d
+template-short false None d = other-short d
 
 pub listing-short : (n w : ℕ) → length (listingText n w) ≤ 26
-unfolding listingText
-listing-short n w = rw length-fill (template-short (ltb (byteYZ w) n) (decodeWord w))
+unfolding listingText listingTemplate
+listing-short n w = rw length-fill (template-short (ltb (byteYZ w) n) (referenceOf (decodeWord w)) (decodeWord w))
 
--- the text, once it is known what the word decodes to and whether it refers to a place inside
-pub listed : (n w : ℕ) (b : Bool) (d : Decoded) {r : Text} → ltb (byteYZ w) n ≡ b → decodeWord w ≡ d
-    → r ≡ text (take 32 (fill w (ascii (listingTemplate b d)))) → r ≡ text (listingText n w)
-unfolding listingText
-listed n w b d e f g =
-    let s : length (ascii (listingTemplate b d)) ≤ 26 = template-short b d in
-    filled-whole w (ascii (listingTemplate b d)) (omega arith) g ∙ rw (e, f)
+-- the text, once it is known how the word refers to an address, and whether to one inside
+pub listed : (n w : ℕ) (b : Bool) (k : Reference) {r : Text} → ltb (byteYZ w) n ≡ b → referenceOf (decodeWord w) ≡ k
+    → r ≡ text (take 32 (fill w (ascii (referenceTemplate b k (otherTemplate (decodeWord w)))))) → r ≡ text (listingText n w)
+unfolding listingText listingTemplate
+listed n w b k e f g =
+    let t = otherTemplate (decodeWord w) in
+    let s : length (ascii (referenceTemplate b k t)) ≤ 26 = template-short b k (decodeWord w) in
+    filled-whole w (ascii (referenceTemplate b k t)) (omega arith) g ∙ (λ i. text (fill w (ascii (referenceTemplate (sym e i) (sym f i) t))))
 
 pub othered : (w : ℕ) (d : Decoded) {r : Text} → decodeWord w ≡ d → r ≡ text (fill w (ascii (otherTemplate d))) → r ≡ text (otherText w)
 unfolding otherText
 othered w d e f = f ∙ rw e
 
--- a digit that is none of those of a reference
-other : (b : Bool) (k : ℕ) → (k ≡ 3 → ⊥) → (k ≡ 4 → ⊥) → (k ≡ 13 → ⊥) → otherTemplate (decodeNibble k) ≡ listingTemplate b (decodeNibble k)
-unfolding listingTemplate decodeNibble digits
-other b zero h i j = refl
-other b (suc zero) h i j = refl
-other b (suc (suc zero)) h i j = refl
-other b (suc (suc (suc zero))) h i j = absurd (h refl)
-other b (suc (suc (suc (suc zero)))) h i j = absurd (i refl)
-other b (suc (suc (suc (suc (suc zero))))) h i j = refl
-other b (suc (suc (suc (suc (suc (suc zero)))))) h i j = refl
-other b (suc (suc (suc (suc (suc (suc (suc zero))))))) h i j = refl
-other b (suc (suc (suc (suc (suc (suc (suc (suc zero)))))))) h i j = refl
-other b (suc (suc (suc (suc (suc (suc (suc (suc (suc zero))))))))) h i j = refl
-other b (suc (suc (suc (suc (suc (suc (suc (suc (suc (suc zero)))))))))) h i j = refl
-other b (suc (suc (suc (suc (suc (suc (suc (suc (suc (suc (suc zero))))))))))) h i j = refl
-other b (suc (suc (suc (suc (suc (suc (suc (suc (suc (suc (suc (suc zero)))))))))))) h i j = refl
-other b (suc (suc (suc (suc (suc (suc (suc (suc (suc (suc (suc (suc (suc zero))))))))))))) h i j = absurd (j refl)
-other b (suc (suc (suc (suc (suc (suc (suc (suc (suc (suc (suc (suc (suc (suc zero)))))))))))))) h i j = refl
-other b (suc (suc (suc (suc (suc (suc (suc (suc (suc (suc (suc (suc (suc (suc (suc zero))))))))))))))) h i j = refl
-other b (suc (suc (suc (suc (suc (suc (suc (suc (suc (suc (suc (suc (suc (suc (suc (suc k)))))))))))))))) h i j = refl
-
-pub other-listed : (n w : ℕ) → (digitW w ≡ 3 → ⊥) → (digitW w ≡ 4 → ⊥) → (digitW w ≡ 13 → ⊥) → otherText w ≡ listingText n w
-unfolding listingText otherText
-other-listed n w h i j = rw (other (ltb (byteYZ w) n) (digitW w) h i j)
+-- of a word that refers to no address
+pub other-listed : (n w : ℕ) → referenceOf (decodeWord w) ≡ None → otherText w ≡ listingText n w
+unfolding listingText otherText listingTemplate
+other-listed n w e = λ i. fill w (ascii (referenceTemplate (ltb (byteYZ w) n) (sym e i) (otherTemplate (decodeWord w))))
 
 -- a label has at most 4 bytes
 pub label-short : (on : Bool) (a : ℕ) → length (labelText on a) ≤ 4

@@ -1,41 +1,55 @@
 -- The listing of a program image (01, section 7; disasm.rs, `disassemble_image`): a head, then a line of 45 bytes for each word.
 -- Assumes nothing.
 use Prim.Native.Nat.{ℕ, _+_, _*_, _/_, _%_}
-use Prim.Native.Char.{code}
 use Prim.Native.String.{String}
 use mathlib.Core.Bool.{Bool, true, false, cond}
 use mathlib.Core.List.{List, [], _∷_, _++_}
 use lib.Dec.{eqb, ltb}
 use lib.ListN.{length, getD}
-use Rattle.isa.specs.Sizes.{memoryWords}
-use Rattle.isa.specs.declared.opcode.Opcode.the-variants.{LoadImmediate, LoadRegister, LoadMemory, StoreMemory, Add, Negate, ShiftRight, ShiftLeft, And, Or, Xor, Jump, Halt}
+use Rattle.isa.specs.declared.opcode.Opcode.the-variants.{LoadImmediate, LoadRegister, LoadMemory, StoreMemory, Add, Negate}
+use Rattle.isa.specs.declared.opcode.Opcode.the-variants.{ShiftRight, ShiftLeft, And, Or, Xor, Jump, Halt}
 use Rattle.isa.specs.declared.opcode.Decoded.{Decoded}
 use Rattle.isa.specs.declared.opcode.Decoded.the-variants.{Known, Unknown}
 use Rattle.isa.specs.Text.{ascii, spaced}
 use Rattle.isa.specs.Word.{byteYZ, decodeWord}
-use Rattle.isa.specs.Format.{fill}
+use Rattle.isa.specs.Format.{fill, decimal}
 use Rattle.encoding.specs.Bytes.{over, eachFrom, numbers}
-use Rattle.encoding.specs.Answer.{Told, Outcome, unlessRefused}
+use Rattle.encoding.specs.Answer.{Outcome, outcome, Told, unlessRefused}
 use Rattle.disasm.specs.Disassembly.{template}
+use Rattle.listing.specs.declared.labels.Reference.{Reference}
+use Rattle.listing.specs.declared.labels.Reference.the-variants.{Loads, Stores, Jumps, None}
 use Rattle.listing.specs.declared.Listed.{Listed}
 use Rattle.listing.specs.declared.Listed.the-variants.{Written, Refused}
 
--- JUMP, LOAD from memory and STORE refer to the address yz
+-- the words of an image that has a listing are at most 256 (01, section 1), since its addresses have two digits: not by the size of memory
+abbrev pub listingWords : ℕ
+listingWords = 256
+
+-- LOAD from memory, STORE and JUMP refer to the address yz
+abbrev pub referenceOf : Decoded → Reference
+referenceOf (Known LoadImmediate) = None
+referenceOf (Known LoadRegister) = None
+referenceOf (Known LoadMemory) = Loads
+referenceOf (Known StoreMemory) = Stores
+referenceOf (Known Add) = None
+referenceOf (Known Negate) = None
+referenceOf (Known ShiftRight) = None
+referenceOf (Known ShiftLeft) = None
+referenceOf (Known And) = None
+referenceOf (Known Or) = None
+referenceOf (Known Xor) = None
+referenceOf (Known Jump) = Jumps
+referenceOf (Known Halt) = None
+referenceOf Unknown = None
+
+abbrev pub isReference : Reference → Bool
+isReference Loads = true
+isReference Stores = true
+isReference Jumps = true
+isReference None = false
+
 abbrev pub refers : Decoded → Bool
-refers (Known LoadImmediate) = false
-refers (Known LoadRegister) = false
-refers (Known LoadMemory) = true
-refers (Known StoreMemory) = true
-refers (Known Add) = false
-refers (Known Negate) = false
-refers (Known ShiftRight) = false
-refers (Known ShiftLeft) = false
-refers (Known And) = false
-refers (Known Or) = false
-refers (Known Xor) = false
-refers (Known Jump) = true
-refers (Known Halt) = false
-refers Unknown = false
+refers d = isReference (referenceOf d)
 
 -- the word w refers to address a
 abbrev pub refersTo : ℕ → ℕ → Bool
@@ -59,21 +73,14 @@ unfoldable pub otherText : ℕ → List ℕ
 otherText w = fill w (ascii (otherTemplate (decodeWord w)))
 
 -- the text of a word: a reference inside the image is a label
+abbrev pub referenceTemplate : Bool → Reference → String → String
+referenceTemplate inside Loads other = cond inside "LOAD  Rx, [Lyz]" "LOAD  Rx, [yz]"
+referenceTemplate inside Stores other = cond inside "STORE Rx, [Lyz]" "STORE Rx, [yz]"
+referenceTemplate inside Jumps other = cond inside "JUMP  [Lyz] IF Rx=R0" "JUMP  [yz] IF Rx=R0"
+referenceTemplate inside None other = other
+
 unfoldable pub listingTemplate : Bool → Decoded → String
-listingTemplate inside (Known LoadImmediate) = otherTemplate (Known LoadImmediate)
-listingTemplate inside (Known LoadRegister) = otherTemplate (Known LoadRegister)
-listingTemplate inside (Known LoadMemory) = cond inside "LOAD  Rx, [Lyz]" "LOAD  Rx, [yz]"
-listingTemplate inside (Known StoreMemory) = cond inside "STORE Rx, [Lyz]" "STORE Rx, [yz]"
-listingTemplate inside (Known Add) = otherTemplate (Known Add)
-listingTemplate inside (Known Negate) = otherTemplate (Known Negate)
-listingTemplate inside (Known ShiftRight) = otherTemplate (Known ShiftRight)
-listingTemplate inside (Known ShiftLeft) = otherTemplate (Known ShiftLeft)
-listingTemplate inside (Known And) = otherTemplate (Known And)
-listingTemplate inside (Known Or) = otherTemplate (Known Or)
-listingTemplate inside (Known Xor) = otherTemplate (Known Xor)
-listingTemplate inside (Known Jump) = cond inside "JUMP  [Lyz] IF Rx=R0" "JUMP  [yz] IF Rx=R0"
-listingTemplate inside (Known Halt) = otherTemplate (Known Halt)
-listingTemplate inside Unknown = otherTemplate Unknown
+listingTemplate inside d = referenceTemplate inside (referenceOf d) (otherTemplate d)
 
 -- the same in an image of n words
 unfoldable pub listingText : ℕ → ℕ → List ℕ
@@ -96,13 +103,6 @@ line n on a w = lineFront n on a w ++ lineBack a w
 unfoldable pub lineOf : List ℕ → ℕ → List ℕ
 lineOf ws a = line (length ws) (labelled ws a) a (getD ws a 0)
 
--- a number below 1,000 in decimal
-unfoldable pub decimal : ℕ → List ℕ
-decimal n =
-    cond (ltb n 10) ((code "0" + n) ∷ [])
-    (cond (ltb n 100) ((code "0" + n / 10) ∷ (code "0" + n % 10) ∷ [])
-    ((code "0" + n / 100) ∷ (code "0" + n / 10 % 10) ∷ (code "0" + n % 10) ∷ []))
-
 unfoldable pub wordsText : ℕ → List ℕ
 wordsText n = cond (eqb n 1) (ascii " word of machine code.\n") (ascii " words of machine code.\n")
 
@@ -114,7 +114,7 @@ headEnd = ascii "; Labels were generated for the addresses this program refers t
 
 -- the head of a listing of n words
 unfoldable pub headOf : ℕ → List ℕ
-headOf n = headStart ++ (decimal n ++ (wordsText n ++ headEnd))
+headOf n = headStart ++ (decimal 3 n ++ (wordsText n ++ headEnd))
 
 unfoldable pub listingOf : List ℕ → List ℕ
 listingOf ws = headOf (length ws) ++ eachFrom (lineOf ws) 0 (length ws)
@@ -131,18 +131,15 @@ abbrev pub told : Listed → Told
 told (Written n) = record { refused = 0; length = n }
 told (Refused n) = record { refused = n; length = 0 }
 
-abbrev pub outcome : Listed → List ℕ → Outcome
-outcome a b = record { answer = told a; buffer = b }
-
--- refused 1: over 256 words; 5: the buffer is shorter than the listing (01, section 1)
+-- refused 1: more words than a listing has; 5: the buffer is shorter than the listing (01, section 1)
 abbrev pub listingRefusal : ℕ → ℕ → ℕ
-listingRefusal n room = cond (ltb memoryWords n) 1 (cond (ltb room (listingLength n)) 5 0)
+listingRefusal n room = cond (ltb listingWords n) 1 (cond (ltb room (listingLength n)) 5 0)
 
 -- the listing is written from the start of the buffer, and what stands behind it is kept
-unfoldable pub listingOutcome : List ℕ → List ℕ → Outcome
+unfoldable pub listingOutcome : List ℕ → List ℕ → Outcome Told
 listingOutcome ws out =
     unlessRefused (listingRefusal (length ws) (length out)) out
-    (outcome (Written (listingLength (length ws))) (over out 0 (listingOf ws)))
+    (outcome (told (Written (listingLength (length ws)))) (over out 0 (listingOf ws)))
 
 -- the listing of words in bytes, high byte first: refused 1 by whole words, then 5, then 6 for an odd byte
 abbrev pub bytesRefusal : ℕ → ℕ → ℕ
@@ -151,7 +148,7 @@ bytesRefusal n room = cond (eqb (listingRefusal (n / 2) room) 0) (cond (eqb (n %
 abbrev pub bytesListing : List ℕ → List ℕ
 bytesListing image = listingOf (numbers 2 (length image / 2) image)
 
-unfoldable pub bytesOutcome : List ℕ → List ℕ → Outcome
+unfoldable pub bytesOutcome : List ℕ → List ℕ → Outcome Told
 bytesOutcome image out =
     unlessRefused (bytesRefusal (length image) (length out)) out
-    (outcome (Written (listingLength (length image / 2))) (over out 0 (bytesListing image)))
+    (outcome (told (Written (listingLength (length image / 2)))) (over out 0 (bytesListing image)))

@@ -1,15 +1,15 @@
 -- Marks (01, section 5): which words of memory, which registers, and whether MDR are hidden, and how an instruction moves them.
 -- Assumes nothing.
 use Prim.Native.Nat.{ℕ, max}
-use mathlib.Core.Bool.{Bool, true, false, cond, not}
+use mathlib.Core.Bool.{Bool, cond, not}
 use mathlib.Core.List.{List}
 use lib.Dec.{eqb}
 use lib.ListN.{getD, set}
 use Rattle.isa.specs.declared.opcode.Opcode.the-variants.{LoadImmediate, LoadRegister, LoadMemory, StoreMemory, Add, Negate, ShiftRight, ShiftLeft, And, Or, Xor, Jump, Halt}
 use Rattle.isa.specs.declared.opcode.Decoded.{Decoded}
 use Rattle.isa.specs.declared.opcode.Decoded.the-variants.{Known, Unknown}
-use Rattle.isa.specs.Word.{decodeWord, digitX, digitY, digitZ, byteYZ}
-use Rattle.marks.specs.declared.Moved.{Moved}
+use Rattle.isa.specs.Word.{decodeWord, digitX, digitY, digitZ}
+use Rattle.control.specs.Address.{reachedAddress}
 
 -- a mark of 0 is open
 pub record Marks : Type 0 where
@@ -57,8 +57,8 @@ joinedYZ w k = joined (registerMark (digitY w) k) (registerMark (digitZ w) k)
 abbrev pub executedMarks : Decoded → ℕ → Marks → Marks
 executedMarks (Known LoadImmediate) w k = registerMarked (digitX w) 0 k
 executedMarks (Known LoadRegister) w k = registerMarked (digitY w) (registerMark (digitZ w) k) k
-executedMarks (Known LoadMemory) w k = let n = wordMark (byteYZ w) k in registerMarked (digitX w) n (mdrMarked n k)
-executedMarks (Known StoreMemory) w k = let n = registerMark (digitX w) k in wordMarked (byteYZ w) n (mdrMarked n k)
+executedMarks (Known LoadMemory) w k = let n = wordMark (reachedAddress w) k in registerMarked (digitX w) n (mdrMarked n k)
+executedMarks (Known StoreMemory) w k = let n = registerMark (digitX w) k in wordMarked (reachedAddress w) n (mdrMarked n k)
 executedMarks (Known Add) w k = registerMarked (digitX w) (joinedYZ w k) k
 executedMarks (Known Negate) w k = registerMarked (digitY w) (registerMark (digitY w) k) k
 executedMarks (Known ShiftRight) w k = registerMarked (digitX w) (registerMark (digitX w) k) k
@@ -73,26 +73,3 @@ executedMarks Unknown w k = k
 -- the marks after a whole instruction
 unfoldable pub instructionMarks : ℕ → Marks → Marks
 instructionMarks w k = executedMarks (decodeWord w) w (mdrMarked 0 k)
-
--- ---- one form for every instruction, which proofs/Moves.antt shows to be the same: register x, or y, and the word at yz get a mark, and MDR its own
-
--- whether it is y, its mark, the word's, MDR's
-abbrev pub moved : Bool → ℕ → ℕ → ℕ → Moved
-moved y n m q = record { 0 = y; 1 = n; 2 = m; 3 = q }
-
--- from the marks of x, y, z, of y and z joined, and of the word
-abbrev pub moves : Decoded → ℕ → ℕ → ℕ → ℕ → ℕ → Moved
-moves (Known LoadImmediate) x y z j m = moved false 0 m 0
-moves (Known LoadRegister) x y z j m = moved true z m 0
-moves (Known LoadMemory) x y z j m = moved false m m m
-moves (Known StoreMemory) x y z j m = moved false x x x
-moves (Known Add) x y z j m = moved false j m 0
-moves (Known Negate) x y z j m = moved true y m 0
-moves (Known ShiftRight) x y z j m = moved false x m 0
-moves (Known ShiftLeft) x y z j m = moved false x m 0
-moves (Known And) x y z j m = moved false j m 0
-moves (Known Or) x y z j m = moved false j m 0
-moves (Known Xor) x y z j m = moved false j m 0
-moves (Known Jump) x y z j m = moved false x m 0
-moves (Known Halt) x y z j m = moved false x m 0
-moves Unknown x y z j m = moved false x m 0

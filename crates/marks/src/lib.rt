@@ -1,7 +1,9 @@
 // Marks: which words and registers are hidden, and how an instruction moves that. A mark of 0 is open.
 ghost use mathlib.Core.Path.{_≡_};
 ghost use mathlib.Core.Bool.{cond};
-ghost use Rattle.marks.specs.Marks.{marked, marksOf, shown, joined, moves, executedMarks, instructionMarks};
+ghost use Rattle.marks.specs.Marks.{marked, marksOf, shown, joined, executedMarks, instructionMarks};
+ghost use Rattle.marks.specs.Forms.{oneMark, allMarks, moves};
+use control::reached_address;
 use isa::Decoded;
 use isa::Instruction;
 use isa::MEMORY_WORDS;
@@ -14,9 +16,14 @@ pub struct Marks {
     pub mdr: u8,
 }
 
-// What an instruction leaves: whether y is the register that gets a mark, or x; that mark; that of the
-// word at yz; and MDR's. Where it moves none, a mark is its own again: so every instruction is made alike.
-pub struct Moved(pub bool, pub u8, pub u8, pub u8);
+// The marks that an instruction leaves: of register y or x, of the word that LOAD or STORE would reach, of MDR.
+// Where it moves none, a mark is its own again: so every instruction is made alike.
+pub struct Moved {
+    pub to_y: bool,
+    pub register: u8,
+    pub word: u8,
+    pub mdr: u8,
+}
 
 // Whether a value with this mark is hidden: what hides is asked here and nowhere else.
 pub fn hides(mark: u8) -> bool
@@ -39,27 +46,51 @@ fn join(a: u8, b: u8) -> u8
     if a < b { b } else { a }
 }
 
-// From the marks of x, y, z, of y and z joined, and of the word at yz.
+// Where a register alone gets a mark: the word keeps its own, and the fetch has opened MDR.
+fn one_mark(to_y: bool, register: u8, word: u8) -> Moved
+    ensures { λ r. ⌜ r ≡ oneMark «to_y» register word ⌝ }
+{
+    Moved {
+        to_y,
+        register,
+        word,
+        mdr: 0,
+    }
+}
+
+// Where register x, the word and MDR have the same mark then: LOAD [yz] and STORE.
+fn all_marks(mark: u8) -> Moved
+    ensures { λ r. ⌜ r ≡ allMarks mark ⌝ }
+{
+    Moved {
+        to_y: false,
+        register: mark,
+        word: mark,
+        mdr: mark,
+    }
+}
+
+// From the marks of x, y, z, of y and z joined, and of the word.
 fn moves_of(decoded: Decoded, x: u8, y: u8, z: u8, both: u8, word: u8) -> Moved
     ensures { λ r. ⌜ r ≡ moves decoded x y z both word ⌝ }
 {
     let Decoded::Known(opcode) = decoded else {
-        return Moved(false, x, word, 0);
+        return one_mark(false, x, word);
     };
     match opcode {
-        Opcode::LoadImmediate => Moved(false, 0, word, 0),
-        Opcode::LoadRegister => Moved(true, z, word, 0),
-        Opcode::LoadMemory => Moved(false, word, word, word),
-        Opcode::StoreMemory => Moved(false, x, x, x),
-        Opcode::Add => Moved(false, both, word, 0),
-        Opcode::Negate => Moved(true, y, word, 0),
-        Opcode::ShiftRight => Moved(false, x, word, 0),
-        Opcode::ShiftLeft => Moved(false, x, word, 0),
-        Opcode::And => Moved(false, both, word, 0),
-        Opcode::Or => Moved(false, both, word, 0),
-        Opcode::Xor => Moved(false, both, word, 0),
-        Opcode::Jump => Moved(false, x, word, 0),
-        Opcode::Halt => Moved(false, x, word, 0),
+        Opcode::LoadImmediate => one_mark(false, 0, word),
+        Opcode::LoadRegister => one_mark(true, z, word),
+        Opcode::LoadMemory => all_marks(word),
+        Opcode::StoreMemory => all_marks(x),
+        Opcode::Add => one_mark(false, both, word),
+        Opcode::Negate => one_mark(true, y, word),
+        Opcode::ShiftRight => one_mark(false, x, word),
+        Opcode::ShiftLeft => one_mark(false, x, word),
+        Opcode::And => one_mark(false, both, word),
+        Opcode::Or => one_mark(false, both, word),
+        Opcode::Xor => one_mark(false, both, word),
+        Opcode::Jump => one_mark(false, x, word),
+        Opcode::Halt => one_mark(false, x, word),
     }
 }
 
@@ -82,15 +113,15 @@ pub fn mark_decoded(
     let x = (word / 256 % 16) as usize;
     let y = (word / 16 % 16) as usize;
     let z = (word % 16) as usize;
-    let at = (word % 256) as usize;
+    let at = reached_address(word) as usize;
     let second = registers[y];
     let third = registers[z];
     let both = join(second, third);
     let m = moves_of(decoded, registers[x], second, third, both, memory[at]);
-    let to = pick(m.0, x, y);
-    registers[to] = m.1;
-    memory[at] = m.2;
-    m.3
+    let to = pick(m.to_y, x, y);
+    registers[to] = m.register;
+    memory[at] = m.word;
+    m.mdr
 }
 
 // The same of a word.

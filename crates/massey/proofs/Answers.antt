@@ -12,12 +12,12 @@ use mir.Val.{toZ, ofZ, SFits}
 use mir.ValLaws.{toZ-pos, toZ-ofZ}
 use Rattle.isa.specs.Text.{padded}
 use Rattle.encoding.specs.Bytes.{over, written}
-use Rattle.encoding.specs.Answer.{Outcome as Buffered}
+use Rattle.encoding.specs.Answer.{Outcome, outcome, Told}
 use Rattle.encoding.proofs.Written.{written-fits}
 use Rattle.disasm.specs.Disassembly.{disassembleText}
 use Rattle.disasm.proofs.Texts.{disassembly-short, disassembly-padded}
-use Rattle.report.specs.Public.{reportLimit}
-use Rattle.massey.specs.Calls.{outcome, lengthOf, refused, numberOf, disassembleOutcome}
+use Rattle.secret.specs.Widths.{reportLimit}
+use Rattle.massey.specs.Calls.{lengthOf, refused, numberOf, disassembleOutcome}
 
 -- ---- lengths and refusals as signed numbers
 
@@ -46,10 +46,10 @@ pub refusal-read : {n : ℕ} → n ≤ 255 → toZ w64 (ofZ w64 (pos 0 -ℤ toZ 
 refusal-read {n} h = toZ-ofZ w64 (pos 0 -ℤ toZ w64 n) (minus-fits h) ∙ minus h ∙ number-refused n
 
 -- a call's outcome with its number in place of what it tells
-pub numbered : {n : ℤ} {a o : Buffered} → n ≡ numberOf (a .answer .refused) (a .answer .length) → a ≡ o
+pub numbered : {n : ℤ} {a o : Outcome Told} → n ≡ numberOf (a .answer .refused) (a .answer .length) → a ≡ o
     → outcome n (a .buffer) ≡ outcome (numberOf (o .answer .refused) (o .answer .length)) (o .buffer)
 numbered e t =
-    let f = e ∙ ap (λ (o : Buffered). numberOf (o .answer .refused) (o .answer .length)) t in
+    let f = e ∙ ap (λ (o : Outcome Told). numberOf (o .answer .refused) (o .answer .length)) t in
     λ i. outcome (f i) (t i .buffer)
 
 -- ---- a word's text

@@ -5,10 +5,10 @@ use native.Mathlib.Omega.{arith}
 use mathlib.Core.Path.{_≡_, refl, sym, ap, _∙_}
 use mathlib.Core.List.{List}
 use lib.ListN.{length, take}
-use Rattle.report.specs.Outcome.{reportIn}
-use Rattle.report.specs.Program.{bytesRefusal, bytesOutcome}
-use Rattle.report.proofs.Programs.{bytes-told}
-use Rattle.report.proofs.Theorem.{demand-three-bytes}
+use Rattle.secret.specs.Outcome.{reportIn}
+use Rattle.secret.specs.Program.{bytesRefusal, bytesOutcome}
+use Rattle.secret.proofs.Programs.{bytes-told}
+use Rattle.secret.proofs.Theorem.{demand-three-bytes}
 use Rattle.massey.specs.Calls.{lengthOf, numberOf, reportedOutcome}
 use Rattle.massey.specs.Demand.{DemandThreeArchive}
 

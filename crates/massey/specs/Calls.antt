@@ -9,17 +9,10 @@ use lib.ListN.{length}
 use Rattle.isa.specs.Sizes.{textWidth}
 use Rattle.isa.specs.Text.{padded}
 use Rattle.encoding.specs.Bytes.{over}
+use Rattle.encoding.specs.Answer.{Outcome, outcome}
 use Rattle.disasm.specs.Disassembly.{disassembleText}
 use Rattle.listing.specs.Listing.{bytesOutcome}
-use Rattle.report.specs.Program as program
-
--- what a call answers, and the buffer that it leaves
-pub record Outcome : Type 0 where
-  pub answer : ℤ
-  pub buffer : List ℕ
-
-abbrev pub outcome : ℤ → List ℕ → Outcome
-outcome a b = record { answer = a; buffer = b }
+use Rattle.secret.specs.Program as program
 
 abbrev pub lengthOf : ℕ → ℤ
 lengthOf n = pos n
@@ -28,7 +21,7 @@ abbrev pub refused : ℕ → ℤ
 refused n = negℤ (pos n)
 
 -- a text in its field of 32 bytes; refused 5: the buffer has no room for the field
-unfoldable pub disassembleOutcome : ℕ → List ℕ → Outcome
+unfoldable pub disassembleOutcome : ℕ → List ℕ → Outcome ℤ
 disassembleOutcome w out =
     cond (ltb (length out) textWidth) (outcome (refused 5) out)
     (outcome (lengthOf (length (disassembleText w))) (over out 0 (padded textWidth (disassembleText w))))
@@ -38,13 +31,13 @@ abbrev pub numberOf : ℕ → ℕ → ℤ
 numberOf zero size = lengthOf size
 numberOf (suc n) size = refused (suc n)
 
-unfoldable pub listingOutcome : List ℕ → List ℕ → Outcome
+unfoldable pub listingOutcome : List ℕ → List ℕ → Outcome ℤ
 listingOutcome image out =
     let o = bytesOutcome image out in
     outcome (numberOf (o .answer .refused) (o .answer .length)) (o .buffer)
 
 -- the same of a report (01, section 6), for the report program's input
-unfoldable pub reportedOutcome : List ℕ → List ℕ → Outcome
+unfoldable pub reportedOutcome : List ℕ → List ℕ → Outcome ℤ
 reportedOutcome input out =
     let o = program.bytesOutcome input out in
     outcome (numberOf (o .answer .refused) (o .answer .length)) (o .buffer)

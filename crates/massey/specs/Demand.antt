@@ -5,9 +5,9 @@ use mathlib.Core.Path.{_≡_}
 use mathlib.Core.Logic.{_↔_}
 use mathlib.Core.List.{List}
 use lib.ListN.{take}
-use Rattle.report.specs.Public.{SamePublic}
-use Rattle.report.specs.Program.{inputOf}
-use Rattle.report.specs.Demand.{AllBytes}
+use Rattle.secret.specs.Public.{SamePublic}
+use Rattle.secret.specs.Program.{inputOf}
+use Rattle.secret.specs.Demand.{AllBytes}
 use Rattle.massey.specs.Calls.{lengthOf, reportedOutcome}
 
 -- the inputs x and y, the buffers b and d, and the lengths m and n that are answered: the report is the buffer's first bytes

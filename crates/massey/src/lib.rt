@@ -1,8 +1,10 @@
 // The calls that C and Rust link, on numbers and bytes: include/massey.h. A call answers a length,
 // or minus the refusal's number, and lays no condition on its caller.
 ghost use mathlib.Core.Path.{_≡_};
-ghost use Rattle.massey.specs.Calls.{outcome, disassembleOutcome, listingOutcome, reportedOutcome};
+ghost use Rattle.encoding.specs.Answer.{outcome};
+ghost use Rattle.massey.specs.Calls.{disassembleOutcome, listingOutcome, reportedOutcome};
 use disasm::disassemble_into;
+use isa::TEXT_WIDTH;
 use listing::Listed;
 use listing::list_bytes;
 use report::Reported;
@@ -13,7 +15,7 @@ use report::report_bytes;
 pub extern "C" fn massey_disassemble(word: u16, out: &mut [u8]) -> i64
     ensures { λ r. ⌜ outcome r (now (out .exit)) ≡ disassembleOutcome word (now (out .entry)) ⌝ }
 {
-    if out.len() < 32 {
+    if out.len() < TEXT_WIDTH {
         return -5;
     }
     disassemble_into(out, 0, word) as i64

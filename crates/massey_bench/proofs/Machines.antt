@@ -1,14 +1,14 @@
 -- The laws of `specs/Machine.antt`: the words of an image, the machine that is started on them, and what a step of it leaves.
 -- Assumes nothing.
-use Prim.Native.Nat.{ℕ, _+_, _*_, _-_, _/_, _≤_, _<_}
+use Prim.Native.Nat.{ℕ, _+_, _*_, _≤_}
 use native.Mathlib.Omega.{arith}
-use mathlib.Core.Path.{_≡_, refl, sym, ap, _∙_}
+use mathlib.Core.Path.{_≡_, refl, ap, _∙_}
 use mathlib.Core.Bool.{Bool, true, false, cond}
 use mathlib.Core.List.{List, []}
-use borrow.Author.Tests.{ltb-true, ltb-false, le-leb}
-use lib.Dec.{ltb}
+use borrow.Author.Tests.{le-leb}
 use lib.ListN.{length, take}
 use lib.Seq.{length-take-le}
+use Rattle.isa.specs.Sizes.{memoryWords}
 use Rattle.encoding.specs.Bytes.{numbers, readWords}
 use Rattle.encoding.proofs.Numbers.{length-numbers}
 use Rattle.control.specs.Count.{overCounted}
@@ -16,19 +16,16 @@ use Rattle.vm.specs.declared.machine.Machine.{Machine as Code}
 use Rattle.vm.specs.Machine.{Machine, microStep}
 use Rattle.vm.specs.Instruction.{stepInstruction}
 use Rattle.vm.specs.Refusal.{refusal, stepRefusalIf, stepRefusal}
-use Rattle.vm.specs.Calls.{outcomeIf, noOp, haltedOp, microOp, microOutcome, noReport, haltedReport, instructionReport, stepOutcome, viewOf, isMachine, stepRefusalOf, restarted, imageWords, serve, loaded}
+use Rattle.vm.specs.Calls.{viewOf, isMachine, stepRefusalOf, restarted, imageWords, imageSize, serve, loaded}
+use Rattle.vm.specs.StepCalls.{effectIf, noOp, haltedOp, microOp, microEffect, noReport, haltedReport, instructionReport, stepEffect}
 use Rattle.vm.proofs.Starts.{new-ok}
 use Rattle.massey_bench.specs.Machine.{wordCount, wordsOf, start, moving}
 
 -- ---- the words of an image
 
--- at most 256 count, and they lie in the bytes
-pub count-fits : (n : ℕ) → (wordCount n ≤ 256) × (2 * wordCount n ≤ n)
-count-fits n = go (ltb (n / 2) 256) refl
-  where
-    go : (b : Bool) → ltb (n / 2) 256 ≡ b → (cond b (n / 2) 256 ≤ 256) × (2 * cond b (n / 2) 256 ≤ n)
-    go true e = let h : n / 2 < 256 = ltb-true (n / 2) 256 e in (omega arith, omega arith)
-    go false e = let h : 256 ≤ n / 2 = ltb-false (n / 2) 256 e in (omega arith, omega arith)
+-- no more than memory has count, and they lie in the bytes
+pub count-fits : (n : ℕ) → (wordCount n ≤ memoryWords) × (2 * wordCount n ≤ n)
+count-fits n = (omega arith, omega arith)
 
 -- what is read into the front of an array
 pub words-read : (image zs : List ℕ) {n : ℕ} {ws : List ℕ} → length zs ≡ 256 → n ≡ wordCount (length image) → ws ≡ readWords image 0 (take n zs) → ws ≡ wordsOf image
@@ -57,18 +54,14 @@ no-history : (image : List ℕ) (n h : ℕ) → restarted image n h .«history_l
 unfolding restarted
 no-history image n h = refl
 
--- at most 256 words have their own number
-all-count : {n : ℕ} → n ≤ 256 → cond (ltb n 256) n 256 ≡ n
-all-count {n} h = go (ltb n 256) refl
-  where
-    go : (b : Bool) → ltb n 256 ≡ b → cond b n 256 ≡ n
-    go true e = refl
-    go false e = let k : 256 ≤ n = ltb-false n 256 e in omega arith
+-- no more words than memory has all count
+all-count : {n : ℕ} → n ≤ memoryWords → imageSize n ≡ n
+all-count h = omega (arith, h)
 
-loaded-new : (ws : List ℕ) (m : Code) → isMachine m ≡ true → length ws ≤ 256 → loaded ws m .machine ≡ restarted (imageWords ws) (length ws) (m .«history_len»)
+loaded-new : (ws : List ℕ) (m : Code) → isMachine m ≡ true → length ws ≤ memoryWords → loaded ws m .machine ≡ restarted (imageWords ws) (length ws) (m .«history_len»)
 unfolding loaded refusal
 loaded-new ws m ok h =
-    new-served ok (restarted (imageWords ws) (cond (ltb (length ws) 256) (length ws) 256) (m .«history_len»)) m
+    new-served ok (restarted (imageWords ws) (imageSize (length ws)) (m .«history_len»)) m
     ∙ ap (λ (n : ℕ). restarted (imageWords ws) n (m .«history_len»)) (all-count h)
 
 -- the words of an image, loaded on a new machine
@@ -84,24 +77,24 @@ start-loaded image {ws} {m} e g =
 
 -- ---- what a step leaves
 
-left-outcome : {A : Type 0} (h o : Bool) (none still moved : A) (m next : Machine) → outcomeIf (stepRefusalIf true h o) h none still moved m next .machine ≡ cond h m (cond o m next)
-left-outcome true o none still moved m next = refl
-left-outcome false true none still moved m next = refl
-left-outcome false false none still moved m next = refl
+left-effect : {A : Type 0} (h o : Bool) (none still moved : A) (m next : Machine) → effectIf (stepRefusalIf true h o) h none still moved m next .machine ≡ cond h m (cond o m next)
+left-effect true o none still moved m next = refl
+left-effect false true none still moved m next = refl
+left-effect false false none still moved m next = refl
 
--- of a machine, a call whose outcome goes by refusal 9 and by whether it is halted
+-- of a machine, a call whose effect goes by refusal 9 and by whether it is halted
 after : {A : Type 0} (s : Code) (none still moved : A) (next : Machine) → isMachine s ≡ true
-    → outcomeIf (stepRefusalOf s) (s .state .control .halted) none still moved (viewOf s) next .machine ≡ cond (s .state .control .halted) (viewOf s) (cond (overCounted (s .counters)) (viewOf s) next)
+    → effectIf (stepRefusalOf s) (s .state .control .halted) none still moved (viewOf s) next .machine ≡ cond (s .state .control .halted) (viewOf s) (cond (overCounted (s .counters)) (viewOf s) next)
 unfolding stepRefusal
 after s none still moved next ok =
     let h = s .state .control .halted in
     let o = overCounted (s .counters) in
-    ap (λ (b : Bool). outcomeIf (stepRefusalIf b h o) h none still moved (viewOf s) next .machine) ok ∙ left-outcome h o none still moved (viewOf s) next
+    ap (λ (b : Bool). effectIf (stepRefusalIf b h o) h none still moved (viewOf s) next .machine) ok ∙ left-effect h o none still moved (viewOf s) next
 
-pub after-tick : (s : Code) → isMachine s ≡ true → microOutcome (stepRefusalOf s) (viewOf s) .machine ≡ moving microStep (viewOf s)
-unfolding microOutcome moving
+pub after-tick : (s : Code) → isMachine s ≡ true → microEffect (stepRefusalOf s) (viewOf s) .machine ≡ moving microStep (viewOf s)
+unfolding microEffect moving
 after-tick s ok = let v = viewOf s in after s noOp (haltedOp (v .state)) (microOp v) (microStep v) ok
 
-pub after-step : (s : Code) → isMachine s ≡ true → stepOutcome (stepRefusalOf s) (viewOf s) .machine ≡ moving (λ v. stepInstruction v .machine) (viewOf s)
-unfolding stepOutcome moving
+pub after-step : (s : Code) → isMachine s ≡ true → stepEffect (stepRefusalOf s) (viewOf s) .machine ≡ moving (λ v. stepInstruction v .machine) (viewOf s)
+unfolding stepEffect moving
 after-step s ok = let v = viewOf s in after s noReport (haltedReport v) (instructionReport v) (stepInstruction v .machine) ok

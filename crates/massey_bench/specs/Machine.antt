@@ -1,9 +1,8 @@
 -- The calls that run an image on a new machine and answer how many micro operations it made (01, sections 3 and 4).
 -- Assumes nothing.
-use Prim.Native.Nat.{ℕ, zero, suc, _/_}
+use Prim.Native.Nat.{ℕ, zero, suc, _/_, min}
 use mathlib.Core.Bool.{true, cond}
 use mathlib.Core.List.{List}
-use lib.Dec.{ltb}
 use lib.ListN.{length}
 use Rattle.isa.specs.Sizes.{memoryWords}
 use Rattle.encoding.specs.Bytes.{numbers}
@@ -11,11 +10,12 @@ use Rattle.control.specs.Count.{overCounted}
 use Rattle.vm.specs.declared.machine.Machine.{Machine as Code}
 use Rattle.vm.specs.Machine.{Machine, microStep}
 use Rattle.vm.specs.Instruction.{stepInstruction}
-use Rattle.vm.specs.Calls.{runOutcome, viewOf, restarted, imageWords}
+use Rattle.vm.specs.Calls.{viewOf, restarted, imageWords}
+use Rattle.vm.specs.RunCalls.{runCall}
 
 -- how many words count of so many bytes
 abbrev pub wordCount : ℕ → ℕ
-wordCount n = cond (ltb (n / 2) memoryWords) (n / 2) memoryWords
+wordCount n = min (n / 2) memoryWords
 
 -- the words of an image, high byte first; an odd byte at the end is none
 unfoldable pub wordsOf : List ℕ → List ℕ
@@ -46,7 +46,7 @@ ticksCount image n = madeBy (ticksOn image n)
 
 -- a run after n ticks, with these breakpoints
 unfoldable pub runCount : List ℕ → ℕ → ℕ → List ℕ → ℕ
-runCount image n budget breaks = madeBy (runOutcome true breaks budget (ticksOn image n) .machine)
+runCount image n budget breaks = madeBy (runCall true breaks budget (ticksOn image n) .machine)
 
 unfoldable pub stepsCount : List ℕ → ℕ → ℕ
 stepsCount image n = madeBy (times n (moving (λ m. stepInstruction m .machine)) (viewOf (start image)))

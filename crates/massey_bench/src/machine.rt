@@ -7,6 +7,7 @@ ghost use Rattle.vm.specs.Calls.{viewOf, isMachine};
 ghost use Rattle.massey_bench.specs.Machine.{wordCount, start, ticksOn, runCount, stepsCount, ticksCount};
 use encoding::get_words;
 use isa::MEMORY_WORDS;
+use isa::least;
 use vm::Begun;
 use vm::Machine;
 
@@ -14,8 +15,7 @@ use vm::Machine;
 fn word_count(bytes: usize) -> usize
     ensures { λ r. ⌜ r ≡ wordCount bytes ⌝ }
 {
-    let n = bytes / 2;
-    if n < MEMORY_WORDS { n } else { MEMORY_WORDS }
+    least(bytes / 2, MEMORY_WORDS)
 }
 
 // A new machine with the image's words loaded, high byte first; an odd byte at the end is none.

@@ -32,7 +32,7 @@ fn put_refusal(out: &mut [u8], refused: u8, len: usize) -> usize {
 }
 
 // A call that answers nothing more than its refusal.
-fn served(s: Served, out: &mut [u8]) -> Replied {
+fn reply_served(s: Served, out: &mut [u8]) -> Replied {
     let machine = s.machine;
     let len = put_refusal(out, s.refused, 1);
     Replied { machine, len }
@@ -206,6 +206,6 @@ pub(crate) fn reply(m: Machine, command: &[u8], store: &mut [u8], out: &mut [u8]
         0x0C => stored(m, command, store),
         0x0D => stepped(m.direct_instruction(), out),
         0x0E => ran(m.direct_run(Begun(budget), breakpoints(command)), out),
-        _ => served(serve(m, command, store), out),
+        _ => reply_served(serve(m, command, store), out),
     }
 }

@@ -1,5 +1,5 @@
 // The call program: a list of calls on a machine on standard input, each call's answer on standard
-// output.
+// output (docs/FORMATS.md, 'The call program').
 mod calls;
 mod dump;
 mod list;

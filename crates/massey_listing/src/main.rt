@@ -1,7 +1,7 @@
 // The listing program: words high byte first on standard input, their listing, or `refused N` and a
-// line feed, on standard output.
+// line feed, on standard output (docs/FORMATS.md).
 ghost use mathlib.Core.Path.{_≡_};
-ghost use Rattle.answer.specs.Answer.{outcome};
+ghost use Rattle.encoding.specs.Answer.{outcome};
 ghost use Rattle.massey_listing.specs.Answer.{programOutcome};
 use answer::first;
 use answer::put_refusal;
@@ -15,7 +15,7 @@ use listing::list_bytes;
 // refused alike, so the rest need not be read.
 const INPUT: usize = 514;
 
-// The listing of 256 words.
+// The longest listing, of LISTING_WORDS.
 const LISTING: usize = 11709;
 
 // Puts the program's answer at the start of `out`, and answers its length.

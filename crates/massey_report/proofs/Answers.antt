@@ -6,17 +6,17 @@ use mathlib.Core.Path.{_≡_, refl, sym, ap, _∙_}
 use mathlib.Core.Bool.{Bool, true, false}
 use mathlib.Core.List.{List}
 use lib.ListN.{length}
-use Rattle.encoding.specs.Answer as calls
+use Rattle.encoding.specs.Answer.{Outcome, outcome, Told}
 use Rattle.marks.specs.Marks.{marked}
-use Rattle.report.specs.declared.Reported.the-variants.{Written, Refused}
-use Rattle.report.specs.Report.{reportBytes}
-use Rattle.report.specs.Outcome as reporting
-use Rattle.report.specs.Program.{inputOf, bytesRefusal, bytesOutcome}
-use Rattle.report.proofs.Lengths.{report-fits}
-use Rattle.report.proofs.Programs.{bytes-accepted, bytes-left, bytes-report, bytes-kept, bytes-written, bytes-number}
-use Rattle.report.proofs.Theorem.{demand-three-bytes}
+use Rattle.secret.specs.declared.Reported.the-variants.{Written, Refused}
+use Rattle.secret.specs.Report.{reportBytes}
+use Rattle.secret.specs.Outcome as reporting
+use Rattle.secret.specs.Program.{inputOf, bytesRefusal, bytesOutcome}
+use Rattle.secret.proofs.Lengths.{report-fits}
+use Rattle.secret.proofs.Programs.{bytes-accepted, bytes-left, bytes-report, bytes-kept, bytes-written, bytes-number}
+use Rattle.secret.proofs.Theorem.{demand-three-bytes}
 use Rattle.answer.specs.Line.{refusalLine}
-use Rattle.answer.specs.Answer.{outcome, answerOf, answerOutcome}
+use Rattle.answer.specs.Answer.{answerOf, answerOutcome}
 use Rattle.answer.proofs.Answers.{fitting, writes-answer, length-refusal}
 use Rattle.massey_report.specs.Answer.{programRefusal, programAnswer, programOutcome, handed}
 use Rattle.massey_report.specs.Demand.{DemandThreeProgram}
@@ -47,18 +47,18 @@ module _ (b out : List ℕ) {whole : Bool} (w : whole ≡ true) where
   fits e = let f = report-fits marked (inputOf b) (length out) (bytes-accepted b (length out) e) in omega arith
 
   -- the call on bytes told a length
-  pub written-answer : {n : ℕ} {o : List ℕ} → reporting.outcome (Written n) o ≡ bytesOutcome b out → outcome n o ≡ programOutcome whole b out
+  pub written-answer : {n : ℕ} {o : List ℕ} → outcome (reporting.told (Written n)) o ≡ bytesOutcome b out → outcome n o ≡ programOutcome whole b out
   written-answer {n} {o} h =
       let e = bytes-written b out h in
       let q = h ∙ bytes-left b out e in
-      fitting (reportBytes marked (inputOf b)) out (fits e) (ap (λ (x : calls.Outcome). x .answer .length) q) (ap (λ (x : calls.Outcome). x .buffer) q)
+      fitting (reportBytes marked (inputOf b)) out (fits e) (ap (λ (x : Outcome Told). x .answer .length) q) (ap (λ (x : Outcome Told). x .buffer) q)
       ∙ ap (λ (x : List ℕ). answerOutcome x out) (sym (report-answer e))
 
   -- it told a number, and left the buffer o as it was
-  pub refused-answer : {n : ℕ} {o : List ℕ} → reporting.outcome (Refused n) o ≡ bytesOutcome b out → answerOutcome (refusalLine n) o ≡ programOutcome whole b out
+  pub refused-answer : {n : ℕ} {o : List ℕ} → outcome (reporting.told (Refused n)) o ≡ bytesOutcome b out → answerOutcome (refusalLine n) o ≡ programOutcome whole b out
   refused-answer {n} {o} h =
       let e = bytes-number b out h in
-      let kept : o ≡ out = ap (λ (x : calls.Outcome). x .buffer) h ∙ bytes-kept b out (λ z. e .1 (e .0 ∙ z)) in
+      let kept : o ≡ out = ap (λ (x : Outcome Told). x .buffer) h ∙ bytes-kept b out (λ z. e .1 (e .0 ∙ z)) in
       let line = line-answer whole b (length out) (e .0 ∙ rw w) (e .1) in
       rw kept (ap (λ (x : List ℕ). answerOutcome x out) (sym line))
 

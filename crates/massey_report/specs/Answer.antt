@@ -5,9 +5,10 @@ use mathlib.Core.Bool.{Bool, cond}
 use mathlib.Core.List.{List}
 use lib.ListN.{length, take}
 use Rattle.marks.specs.Marks.{marked}
-use Rattle.report.specs.Report.{reportBytes}
-use Rattle.report.specs.Program.{inputOf, bytesRefusal}
-use Rattle.answer.specs.Answer.{Outcome, answerOf, answerOutcome}
+use Rattle.secret.specs.Report.{reportBytes}
+use Rattle.secret.specs.Program.{inputOf, bytesRefusal}
+use Rattle.encoding.specs.Answer.{Outcome}
+use Rattle.answer.specs.Answer.{answerOf, answerOutcome}
 
 -- the number of the refusal, 0 for none; where a read failed it is 6, since the input may go on: whether none did, the input, the length of the buffer
 abbrev pub programRefusal : Bool → List ℕ → ℕ → ℕ
@@ -18,9 +19,9 @@ unfoldable pub programAnswer : Bool → List ℕ → ℕ → List ℕ
 programAnswer whole b room = answerOf (programRefusal whole b room) (reportBytes marked (inputOf b))
 
 -- they stand at the start of the buffer, and the bytes behind them are kept; where they do not fit nothing is written, and the length is 0
-abbrev pub programOutcome : Bool → List ℕ → List ℕ → Outcome
+abbrev pub programOutcome : Bool → List ℕ → List ℕ → Outcome ℕ
 programOutcome whole b out = answerOutcome (programAnswer whole b (length out)) out
 
 -- what is handed to `write`: the first bytes of the buffer, as many as the length says
-abbrev pub handed : Outcome → List ℕ
-handed o = take (o .size) (o .buffer)
+abbrev pub handed : Outcome ℕ → List ℕ
+handed o = take (o .answer) (o .buffer)

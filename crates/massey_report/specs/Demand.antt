@@ -6,9 +6,9 @@ use mathlib.Core.Logic.{_↔_}
 use mathlib.Core.Bool.{true}
 use mathlib.Core.List.{List}
 use lib.ListN.{length}
-use Rattle.report.specs.Public.{SamePublic}
-use Rattle.report.specs.Program.{inputOf, bytesRefusal}
-use Rattle.report.specs.Demand.{AllBytes}
+use Rattle.secret.specs.Public.{SamePublic}
+use Rattle.secret.specs.Program.{inputOf, bytesRefusal}
+use Rattle.secret.specs.Demand.{AllBytes}
 use Rattle.massey_report.specs.Answer.{programOutcome, handed}
 
 -- two inputs x and y that were read whole and are not refused, and the buffers b and d

@@ -1,7 +1,7 @@
 // The report program: a guarded run's input on standard input, numbers high byte first, and its
-// report, or `refused N` and a line feed, on standard output.
+// report, or `refused N` and a line feed, on standard output (docs/FORMATS.md).
 ghost use mathlib.Core.Path.{_≡_};
-ghost use Rattle.answer.specs.Answer.{outcome};
+ghost use Rattle.encoding.specs.Answer.{outcome};
 ghost use Rattle.massey_report.specs.Answer.{programOutcome};
 use answer::first;
 use answer::put_refusal;

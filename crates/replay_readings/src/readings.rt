@@ -9,6 +9,7 @@ use encoding::put_number;
 use encoding::put_words;
 use isa::ByteOption;
 use isa::MEMORY_WORDS;
+use isa::least;
 use replay::byte_at;
 use replay::word_at;
 use vm::Machine;
@@ -103,17 +104,6 @@ fn put_position(out: &mut [u8], at: usize, m: Machine) -> u8 {
     r.refused
 }
 
-// How many words of an image count.
-fn live_words(count: usize) -> usize
-    ensures { λ r. ⌜ r ≤ 256 ⌝ }
-{
-    if count < MEMORY_WORDS {
-        count
-    } else {
-        MEMORY_WORDS
-    }
-}
-
 // What is read of the image. This and the next two tell whether every reading was served.
 fn put_images(out: &mut [u8], m: Machine) -> bool {
     let refusals = [put_read(out, 0, m.image_len()), put_image(out, 8, m)];
@@ -144,7 +134,7 @@ fn put_others(out: &mut [u8], m: Machine) -> bool {
 fn put_answers(out: &mut [u8], m: Machine, count: usize, address: u8) -> usize
     ensures { λ r. ⌜ r ≤ 573 ⌝ }
 {
-    let at = 16 + 2 * live_words(count);
+    let at = 16 + 2 * least(count, MEMORY_WORDS);
     let mut behind = [0u8; 45];
     let first = put_images(out, m);
     let second = put_words_read(&mut behind, m, address);

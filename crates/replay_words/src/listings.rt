@@ -2,12 +2,12 @@
 // one that is a byte too short. The listing has its own length, so it is compared where it lies.
 use check::same;
 use encoding::get_words;
-use isa::MEMORY_WORDS;
+use listing::LISTING_WORDS;
 use listing::Listed;
 use listing::disassemble_image;
 use replay::word_at;
 
-// More than the longest listing, of 256 words, takes: 11,709 bytes.
+// More than the longest listing takes: 11,709 bytes.
 const ROOM: usize = 12000;
 // What a buffer is filled with: no byte of a listing.
 const PATTERN: u8 = 0xA5;
@@ -78,16 +78,16 @@ fn words_pass(record: &[u8], words: &mut [u16], answer: &[u8]) -> bool {
     is_written(words, answer) && is_refused_short(words, answer)
 }
 
-// The question is the number of words and the words. More than 256 have no listing.
+// The question is the number of words and the words. More than LISTING_WORDS have no listing.
 pub(crate) fn passes(record: &[u8]) -> bool {
     let n = word_at(record, 1) as usize;
-    if MEMORY_WORDS < n {
+    if LISTING_WORDS < n {
         return false;
     }
     let end = 3 + 2 * n;
     if record.len() < end {
         return false;
     }
-    let mut words = [0u16; MEMORY_WORDS];
+    let mut words = [0u16; LISTING_WORDS];
     words_pass(record, &mut words[0..n], &record[end..])
 }

@@ -11,9 +11,9 @@ use disasm::written_register;
 use encoding::put_bytes;
 use encoding::put_number;
 use isa::Instruction;
-use isa::binary_grouped;
 use isa::format_word;
-use isa::to_signed;
+use notation::binary_grouped;
+use notation::to_signed;
 use replay::put_text;
 use replay::word_at;
 
@@ -28,9 +28,9 @@ fn put_digits(out: &mut [u8], word: u16) {
         i.y(),
         i.z(),
         i.yz(),
-        t.0,
-        t.1,
-        t.2,
+        t.x,
+        t.y,
+        t.z,
     ];
     let nibbles = i.nibbles();
     put_number(out, 3, 2, i.word() as u64);

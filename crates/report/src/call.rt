@@ -1,10 +1,11 @@
 // The call for a report.
 ghost use mathlib.Core.Path.{_≡_};
 ghost use Rattle.guard.specs.Input.{inputFrom};
-ghost use Rattle.report.specs.Outcome.{outcome, reportOutcome};
-use crate::REPORT_LENGTH;
-use crate::Reported;
+ghost use Rattle.encoding.specs.Answer.{outcome};
+ghost use Rattle.secret.specs.Outcome.{told, reportOutcome};
 use crate::whole::write_report;
+use crate::widths::REPORT_LENGTH;
+use secret::Reported;
 use vm::Begun;
 use vm::guarded_run;
 
@@ -17,7 +18,7 @@ pub fn report(
     breakpoints: &[u8],
     out: &mut [u8],
 ) -> Reported
-    ensures { λ r. ⌜ outcome r (now (out .exit))
+    ensures { λ r. ⌜ outcome (told r) (now (out .exit))
         ≡ reportOutcome (inputFrom (now (image .entry)) (now (marks .entry)) (budget .0) (now (breakpoints .entry))) (now (out .entry)) ⌝ }
 {
     let run = guarded_run(image, marks, budget, breakpoints);

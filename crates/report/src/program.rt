@@ -4,12 +4,16 @@
 ghost use mathlib.Core.Path.{_≡_};
 ghost use Prim.Native.Nat.{_+_};
 ghost use lib.ListN.{take};
-ghost use Rattle.report.specs.Outcome.{outcome};
-ghost use Rattle.report.specs.Program.{inputLength, badMarks, firstRefusal, bytesOutcome};
-use crate::INPUT_LENGTH;
-use crate::REPORT_LENGTH;
-use crate::Reported;
+ghost use Rattle.isa.specs.Sizes.{memoryWords};
+ghost use Rattle.encoding.specs.Answer.{outcome};
+ghost use Rattle.secret.specs.Outcome.{told};
+ghost use Rattle.secret.specs.Program.{inputLength, badMarks, firstRefusal, bytesOutcome};
 use crate::call::report;
+use crate::widths::COUNT_WIDTH;
+use crate::widths::INPUT_LENGTH;
+use crate::widths::NUMBER_WIDTH;
+use crate::widths::REPORT_LENGTH;
+use crate::widths::VALUE_WIDTH;
 use encoding::get_number;
 use encoding::get_words;
 use encoding::put_bytes;
@@ -17,11 +21,12 @@ use guard::BREAK_LIMIT;
 use guard::BUDGET_LIMIT;
 use guard::zero_one;
 use isa::MEMORY_WORDS;
+use secret::Reported;
 use vm::Begun;
 
 // The 256 marks, from index `at` up to `end`, are wholly there, and one is not 0 or 1.
 fn bad_marks(input: &[u8], at: usize, end: usize) -> bool
-    requires { ⌜ end ≡ at + 256 ⌝ }
+    requires { ⌜ end ≡ at + memoryWords ⌝ }
     ensures { λ r. ⌜ r ≡ badMarks (now (input .entry)) at ⌝ }
 {
     if input.len() < end {
@@ -64,23 +69,23 @@ fn first_refusal(
 // The report of the input that the bytes are. A number that is not wholly there reads as 0, which no
 // test refuses but the last: so 1 to 4 are about what is there, and what is missing is left to 6.
 fn report_parts(input: &[u8], out: &mut [u8]) -> Reported
-    ensures { λ r. ⌜ outcome r (now (out .exit)) ≡ bytesOutcome (now (input .entry)) (now (out .entry)) ⌝ }
+    ensures { λ r. ⌜ outcome (told r) (now (out .exit)) ≡ bytesOutcome (now (input .entry)) (now (out .entry)) ⌝ }
 {
-    let n = get_number(input, 0, 2) as usize;
-    let marks_at = 2 + 2 * n;
+    let n = get_number(input, 0, COUNT_WIDTH) as usize;
+    let marks_at = COUNT_WIDTH + VALUE_WIDTH * n;
     let budget_at = marks_at + MEMORY_WORDS;
-    let count_at = budget_at + 8;
-    let breaks_at = count_at + 2;
+    let count_at = budget_at + NUMBER_WIDTH;
+    let breaks_at = count_at + COUNT_WIDTH;
     let bad = bad_marks(input, marks_at, budget_at);
-    let count = get_number(input, count_at, 2) as usize;
-    let budget = Begun(get_number(input, budget_at, 8));
+    let count = get_number(input, count_at, COUNT_WIDTH) as usize;
+    let budget = Begun(get_number(input, budget_at, NUMBER_WIDTH));
     let whole = input.len() == breaks_at + count;
     let refused = first_refusal(n, bad, count, budget, out.len(), whole);
     if refused != 0 {
         return Reported::Refused(refused);
     }
     let mut words = [0u16; MEMORY_WORDS];
-    get_words(input, 2, &mut words[..n]);
+    get_words(input, COUNT_WIDTH, &mut words[..n]);
     report(
         &words[..n],
         &input[marks_at..budget_at],
@@ -103,7 +108,7 @@ fn deciding(input: &[u8]) -> &[u8]
 // The same, of a copy that is made before anything is written: a caller in C may hand in one buffer as both,
 // and the report would be written over the marks that say what it hides.
 pub fn report_bytes(input: &[u8], out: &mut [u8]) -> Reported
-    ensures { λ r. ⌜ outcome r (now (out .exit)) ≡ bytesOutcome (now (input .entry)) (now (out .entry)) ⌝ }
+    ensures { λ r. ⌜ outcome (told r) (now (out .exit)) ≡ bytesOutcome (now (input .entry)) (now (out .entry)) ⌝ }
 {
     let part = deciding(input);
     let n = part.len();

@@ -3,33 +3,52 @@ ghost use mathlib.Core.Path.{_≡_};
 ghost use mathlib.Core.List.{[], _∷_};
 ghost use Prim.Native.Nat.{_+_, _≤_};
 ghost use lib.ListN.{length};
-ghost use Rattle.encoding.specs.Bytes.{over};
+ghost use Rattle.encoding.specs.Bytes.{over, bigEndian};
+ghost use Rattle.isa.specs.Sizes.{textWidth};
 ghost use Rattle.marks.specs.Marks.{marked};
-ghost use Rattle.report.specs.Report.{headRecord, shownText, valueRecord, startRecord, traceBytes, faultBytes, countBytes, controlBytes, endRecord};
+ghost use Rattle.secret.specs.Widths.{headLength, valueLength, startLength, breakLength, traceLength, touchedLength};
+ghost use Rattle.secret.specs.Widths.{controlLength, countsLength, endLength};
+ghost use Rattle.secret.specs.Report.{headRecord, shownText, valueRecord, startRecord, traceBytes, touchedRecord};
+ghost use Rattle.control.specs.Codes.{faultWidth, faultBytes};
+ghost use Rattle.secret.specs.Report.{controlBytes, countBytes, endRecord};
+use crate::widths::BREAK_COUNT_AT;
+use crate::widths::BUDGET_AT;
+use crate::widths::CONTROL_AT;
+use crate::widths::CONTROL_LENGTH;
+use crate::widths::COUNT_WIDTH;
+use crate::widths::COUNTS_LENGTH;
+use crate::widths::KIND_WIDTH;
+use crate::widths::NUMBER_WIDTH;
+use crate::widths::PLACE_AND_PHASE;
+use crate::widths::PLACE_AND_VALUE;
+use crate::widths::WORD_LENGTH;
+use control::ADDRESS_WIDTH;
+use control::Address;
 use control::Counters;
 use control::Fault;
 use control::State;
 use disasm::disassemble_into;
 use encoding::put_bytes;
 use encoding::put_number;
+use isa::TEXT_WIDTH;
 use marks::hides;
 use marks::shown_value;
 use vm::Begun;
 
 // Kind 01, at byte 0: image length, budget, breakpoint count.
 pub(crate) fn put_head(out: &mut [u8], len: usize, budget: Begun, count: usize)
-    requires { ⌜ 13 ≤ length (now out) ⌝ }
+    requires { ⌜ headLength ≤ length (now out) ⌝ }
     ensures { λ _. ⌜ now (out .exit) ≡ over (now (out .entry)) 0 (headRecord len (budget .0) count) ⌝ }
 {
-    put_number(out, 0, 1, 1);
-    put_number(out, 1, 2, len as u64);
-    put_number(out, 3, 8, budget.0);
-    put_number(out, 11, 2, count as u64);
+    put_number(out, 0, KIND_WIDTH, 1);
+    put_number(out, KIND_WIDTH, COUNT_WIDTH, len as u64);
+    put_number(out, BUDGET_AT, NUMBER_WIDTH, budget.0);
+    put_number(out, BREAK_COUNT_AT, COUNT_WIDTH, count as u64);
 }
 
 // The disassembly that a record shows: zeros for a word that is marked.
 fn put_text(out: &mut [u8], at: usize, mark: u8, word: u16)
-    requires { ⌜ at + 32 ≤ length (now out) ⌝ }
+    requires { ⌜ at + textWidth ≤ length (now out) ⌝ }
     ensures { λ _. ⌜ now (out .exit) ≡ over (now (out .entry)) at (shownText marked mark word) ⌝ }
 {
     let hidden = hides(mark);
@@ -37,39 +56,59 @@ fn put_text(out: &mut [u8], at: usize, mark: u8, word: u16)
         disassemble_into(out, at, word);
         return;
     }
-    let zeros = [0u8; 32];
+    let zeros = [0u8; TEXT_WIDTH];
     put_bytes(out, at, &zeros);
 }
 
-// A record of a kind: index, mark, value.
-pub(crate) fn put_value(out: &mut [u8], at: usize, kind: u8, index: u8, mark: u8, value: u16)
-    requires { ⌜ at + 5 ≤ length (now out) ⌝ }
-    ensures { λ _. ⌜ now (out .exit) ≡ over (now (out .entry)) at (valueRecord marked kind index mark value) ⌝ }
+// A record of a kind: an index in `width` bytes, mark, value.
+pub(crate) fn put_value(
+    out: &mut [u8],
+    at: usize,
+    kind: u8,
+    width: usize,
+    index: usize,
+    mark: u8,
+    value: u16,
+)
+    requires { ⌜ at + valueLength width ≤ length (now out) ⌝ }
+    ensures { λ _. ⌜ now (out .exit) ≡ over (now (out .entry)) at (valueRecord marked kind (bigEndian width index) mark value) ⌝ }
 {
     let v = shown_value(mark, value);
-    let bytes = [kind, index, mark, (v / 256 % 256) as u8, (v % 256) as u8];
-    put_bytes(out, at, &bytes);
+    let tail = [mark, (v / 256 % 256) as u8, (v % 256) as u8];
+    let second = at + KIND_WIDTH;
+    out[at] = kind;
+    put_number(out, second, width, index as u64);
+    put_bytes(out, second + width, &tail);
 }
 
 // Kind 02: address, mark, value, disassembly.
-pub(crate) fn put_start(out: &mut [u8], at: usize, address: u8, mark: u8, word: u16)
-    requires { ⌜ at + 37 ≤ length (now out) ⌝ }
+pub(crate) fn put_start(out: &mut [u8], at: usize, address: usize, mark: u8, word: u16)
+    requires { ⌜ at + startLength ≤ length (now out) ⌝ }
     ensures { λ _. ⌜ now (out .exit) ≡ over (now (out .entry)) at (startRecord marked address mark word) ⌝ }
 {
-    put_value(out, at, 2, address, mark, word);
-    put_text(out, at + 5, mark, word);
+    put_value(out, at, 2, ADDRESS_WIDTH, address, mark, word);
+    put_text(out, at + WORD_LENGTH, mark, word);
 }
 
-// Kinds 03 and 07: one byte.
+// Kind 03, and the first two bytes of kind 08.
 pub(crate) fn put_byte(out: &mut [u8], at: usize, kind: u8, byte: u8)
-    requires { ⌜ at + 2 ≤ length (now out) ⌝ }
+    requires { ⌜ at + breakLength ≤ length (now out) ⌝ }
     ensures { λ _. ⌜ now (out .exit) ≡ over (now (out .entry)) at (kind ∷ byte ∷ []) ⌝ }
 {
     let bytes = [kind, byte];
     put_bytes(out, at, &bytes);
 }
 
-// Kind 04: number, address, phase, and the 32 bytes of a text.
+// Kind 07: an address.
+pub(crate) fn put_touched(out: &mut [u8], at: usize, address: Address)
+    requires { ⌜ at + touchedLength ≤ length (now out) ⌝ }
+    ensures { λ _. ⌜ now (out .exit) ≡ over (now (out .entry)) at (touchedRecord address) ⌝ }
+{
+    put_number(out, at, KIND_WIDTH, 7);
+    put_number(out, at + KIND_WIDTH, ADDRESS_WIDTH, address as u64);
+}
+
+// Kind 04: number, address, phase, and the bytes of a text.
 pub(crate) fn put_traced(
     out: &mut [u8],
     at: usize,
@@ -78,73 +117,48 @@ pub(crate) fn put_traced(
     phase: u8,
     text: &[u8],
 )
-    requires { ⌜ (at + 43 ≤ length (now out)) × (length (now text) ≡ 32) ⌝ }
+    requires { ⌜ (at + traceLength ≤ length (now out)) × (length (now text) ≡ textWidth) ⌝ }
     ensures { λ _. ⌜ now (out .exit) ≡ over (now (out .entry)) at (traceBytes number address phase (now (text .entry))) ⌝ }
 {
-    put_number(out, at, 1, 4);
-    let second = at + 1;
-    put_number(out, second, 8, number);
-    let third = second + 8;
+    put_number(out, at, KIND_WIDTH, 4);
+    let second = at + KIND_WIDTH;
+    put_number(out, second, NUMBER_WIDTH, number);
+    let third = second + NUMBER_WIDTH;
     let bytes = [address, phase];
     put_bytes(out, third, &bytes);
-    put_bytes(out, third + 2, text);
+    put_bytes(out, third + PLACE_AND_PHASE, text);
 }
 
 // PC, IR, MAR, MDR's mark, and MDR as it is shown.
-fn put_control(out: &mut [u8], at: usize, pc: u8, ir: u16, mar: u8, mark: u8, mdr: u16)
-    requires { ⌜ at + 7 ≤ length (now out) ⌝ }
+fn put_control(out: &mut [u8], at: usize, pc: u8, ir: u16, mar: Address, mark: u8, mdr: u16)
+    requires { ⌜ at + controlLength ≤ length (now out) ⌝ }
     ensures { λ _. ⌜ now (out .exit) ≡ over (now (out .entry)) at (controlBytes pc ir mar mark mdr) ⌝ }
 {
-    let bytes = [
-        pc,
-        (ir / 256 % 256) as u8,
-        (ir % 256) as u8,
-        mar,
-        mark,
-        (mdr / 256 % 256) as u8,
-        (mdr % 256) as u8,
-    ];
-    put_bytes(out, at, &bytes);
+    let first = [pc, (ir / 256 % 256) as u8, (ir % 256) as u8];
+    let last = [mark, (mdr / 256 % 256) as u8, (mdr % 256) as u8];
+    put_bytes(out, at, &first);
+    let second = at + PLACE_AND_VALUE;
+    put_number(out, second, ADDRESS_WIDTH, mar as u64);
+    put_bytes(out, second + ADDRESS_WIDTH, &last);
 }
 
 fn put_counts(out: &mut [u8], at: usize, counters: Counters)
-    requires { ⌜ at + 32 ≤ length (now out) ⌝ }
+    requires { ⌜ at + countsLength ≤ length (now out) ⌝ }
     ensures { λ _. ⌜ now (out .exit) ≡ over (now (out .entry)) at (countBytes counters) ⌝ }
 {
-    put_number(out, at, 8, counters.instructions);
-    let second = at + 8;
-    put_number(out, second, 8, counters.micro_operations);
-    let third = second + 8;
-    put_number(out, third, 8, counters.bus_reads);
-    put_number(out, third + 8, 8, counters.bus_writes);
-}
-
-// A fault in its four bytes.
-fn fault_bytes(fault: Fault) -> [u8; 4]
-    ensures { λ r. ⌜ r ≡ faultBytes fault ⌝ }
-{
-    match fault {
-        Fault::Healthy => [0, 0, 0, 0],
-        Fault::UnknownInstruction { word, address } => [
-            1,
-            (word / 256 % 256) as u8,
-            (word % 256) as u8,
-            address,
-        ],
-        Fault::StepBudgetExhausted { word, address } => [
-            2,
-            (word / 256 % 256) as u8,
-            (word % 256) as u8,
-            address,
-        ],
-    }
+    put_number(out, at, NUMBER_WIDTH, counters.instructions);
+    let second = at + NUMBER_WIDTH;
+    put_number(out, second, NUMBER_WIDTH, counters.micro_operations);
+    let third = second + NUMBER_WIDTH;
+    put_number(out, third, NUMBER_WIDTH, counters.bus_reads);
+    put_number(out, third + NUMBER_WIDTH, NUMBER_WIDTH, counters.bus_writes);
 }
 
 fn put_fault(out: &mut [u8], at: usize, fault: Fault)
-    requires { ⌜ at + 4 ≤ length (now out) ⌝ }
+    requires { ⌜ at + faultWidth ≤ length (now out) ⌝ }
     ensures { λ _. ⌜ now (out .exit) ≡ over (now (out .entry)) at (faultBytes fault) ⌝ }
 {
-    let bytes = fault_bytes(fault);
+    let bytes = fault.bytes();
     put_bytes(out, at, &bytes);
 }
 
@@ -157,16 +171,16 @@ pub(crate) fn put_end(
     counters: Counters,
     mark: u8,
 )
-    requires { ⌜ at + 45 ≤ length (now out) ⌝ }
+    requires { ⌜ at + endLength ≤ length (now out) ⌝ }
     ensures { λ _. ⌜ now (out .exit) ≡ over (now (out .entry)) at (endRecord marked stop state counters mark) ⌝ }
 {
     let control = state.control;
     let fault = state.fault;
     let mdr = shown_value(mark, control.mdr);
     put_byte(out, at, 8, stop);
-    let second = at + 2;
+    let second = at + CONTROL_AT;
     put_control(out, second, control.pc, control.ir, control.mar, mark, mdr);
-    let third = second + 7;
+    let third = second + CONTROL_LENGTH;
     put_counts(out, third, counters);
-    put_fault(out, third + 32, fault);
+    put_fault(out, third + COUNTS_LENGTH, fault);
 }

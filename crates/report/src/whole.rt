@@ -4,18 +4,31 @@ ghost use mathlib.Core.List.{_++_};
 ghost use Prim.Native.Nat.{_+_, _*_, _≤_};
 ghost use lib.ListN.{length};
 ghost use Rattle.encoding.specs.Bytes.{over};
+ghost use Rattle.isa.specs.Sizes.{memoryWords, registerCount};
 ghost use Rattle.vm.specs.Calls.{viewOf};
 ghost use Rattle.marks.specs.Marks.{marked, marksOf};
-ghost use Rattle.report.specs.Report.{byteRecords, valueRecords, endRecord, endRecords, reportOn};
+ghost use Rattle.secret.specs.Widths.{touchedLength, endLength, cellsLength, runRecordsAt, runLength};
+ghost use Rattle.secret.specs.Report.{indexBytes, addressBytes, touchedRecord, eachRecord, valueRecords, endRecord, endRecords, reportOn};
 ghost use Rattle.guard.specs.Input.{inputFrom};
-ghost use Rattle.report.specs.Slots.{Reportable, Writable, inputRecords, endFrom};
-ghost use Rattle.report.specs.Outcome.{written, served};
+ghost use Rattle.secret.specs.Forms.{Reportable, Writable, inputRecords, endFrom};
+ghost use Rattle.secret.specs.Outcome.{answeredLength, delivered};
 use crate::records::put_end;
 use crate::records::put_head;
-use crate::rows::put_list;
+use crate::rows::put_breaks;
 use crate::rows::put_starts;
+use crate::rows::put_touches;
 use crate::rows::put_trace;
 use crate::rows::put_values;
+use crate::widths::BREAK_LENGTH;
+use crate::widths::BREAK_RECORDS_AT;
+use crate::widths::CELLS_LENGTH;
+use crate::widths::END_LENGTH;
+use crate::widths::INDEX_WIDTH;
+use crate::widths::REGISTERS_LENGTH;
+use crate::widths::TOUCHED_LENGTH;
+use crate::widths::TRACE_LENGTH;
+use control::ADDRESS_WIDTH;
+use control::Address;
 use control::Counters;
 use control::State;
 use guard::GuardedStop;
@@ -24,14 +37,14 @@ use vm::Machine;
 
 // Kinds 01 to 03, at byte 0.
 fn put_input(out: &mut [u8], image: &[u16], marks: &[u8], budget: Begun, breakpoints: &[u8])
-    requires { ⌜ (9485 + 2 * length (now breakpoints) ≤ length (now out)) × (length (now marks) ≡ 256) ⌝ }
+    requires { ⌜ (runRecordsAt (length (now breakpoints)) ≤ length (now out)) × (length (now marks) ≡ memoryWords) ⌝ }
     ensures { λ _. ⌜ now (out .exit)
         ≡ over (now (out .entry)) 0
         (inputRecords (inputFrom (now (image .entry)) (now (marks .entry)) (budget .0) (now (breakpoints .entry)))) ⌝ }
 {
     put_head(out, image.len(), budget, breakpoints.len());
     put_starts(out, image, marks);
-    put_list(out, 9485, 3, breakpoints);
+    put_breaks(out, BREAK_RECORDS_AT, breakpoints);
 }
 
 // Kinds 05 and 06.
@@ -43,33 +56,48 @@ fn put_cells(
     memory: &[u16],
     memory_marks: &[u8],
 )
-    requires { ⌜ (at + 1360 ≤ length (now out))
-        × (length (now registers) ≡ 16) × (length (now «register_marks») ≡ 16)
-        × (length (now memory) ≡ 256) × (length (now «memory_marks») ≡ 256) ⌝ }
+    requires { ⌜ (at + cellsLength ≤ length (now out))
+        × (length (now registers) ≡ registerCount) × (length (now «register_marks») ≡ registerCount)
+        × (length (now memory) ≡ memoryWords) × (length (now «memory_marks») ≡ memoryWords) ⌝ }
     ensures { λ _. ⌜ now (out .exit)
         ≡ over (now (out .entry)) at
-        (valueRecords marked 5 16 (now (registers .entry)) (now («register_marks» .entry))
-        ++ valueRecords marked 6 256 (now (memory .entry)) (now («memory_marks» .entry))) ⌝ }
+        (valueRecords marked 5 indexBytes registerCount (now (registers .entry)) (now («register_marks» .entry))
+        ++ valueRecords marked 6 addressBytes memoryWords (now (memory .entry)) (now («memory_marks» .entry))) ⌝ }
 {
-    put_values(out, at, 5, registers, register_marks);
-    put_values(out, at + 80, 6, memory, memory_marks);
+    put_values(out, at, 5, INDEX_WIDTH, registers, register_marks);
+    put_values(
+        out,
+        at + REGISTERS_LENGTH,
+        6,
+        ADDRESS_WIDTH,
+        memory,
+        memory_marks,
+    );
 }
 
 // Kinds 07 and 08.
 fn put_last(
     out: &mut [u8],
     at: usize,
-    touched: &[u8],
+    touched: &[Address],
     stop: u8,
     state: State,
     counters: Counters,
     mark: u8,
 )
-    requires { ⌜ at + (2 * length (now touched) + 45) ≤ length (now out) ⌝ }
-    ensures { λ _. ⌜ now (out .exit) ≡ over (now (out .entry)) at (byteRecords 7 (now (touched .entry)) ++ endRecord marked stop state counters mark) ⌝ }
+    requires { ⌜ at + (touchedLength * length (now touched) + endLength) ≤ length (now out) ⌝ }
+    ensures { λ _. ⌜ now (out .exit)
+        ≡ over (now (out .entry)) at (eachRecord touchedRecord (now (touched .entry)) ++ endRecord marked stop state counters mark) ⌝ }
 {
-    put_list(out, at, 7, touched);
-    put_end(out, at + 2 * touched.len(), stop, state, counters, mark);
+    put_touches(out, at, touched);
+    put_end(
+        out,
+        at + TOUCHED_LENGTH * touched.len(),
+        stop,
+        state,
+        counters,
+        mark,
+    );
 }
 
 // Kinds 04 to 08, from byte `at` on; what is answered is the place behind them.
@@ -82,9 +110,9 @@ fn put_run(
     memory_marks: &[u8],
     mark: u8,
 ) -> usize
-    requires { ⌜ (at + (43 * machine .«trace_len» + (1360 + (2 * machine .«touched_len» + 45))) ≤ length (now out))
-        × (length (now «register_marks») ≡ 16) × (length (now «memory_marks») ≡ 256) × Reportable machine ⌝ }
-    ensures { λ r. ⌜ (r ≡ at + 43 * machine .«trace_len» + 1360 + 2 * machine .«touched_len» + 45)
+    requires { ⌜ (at + runLength (machine .«trace_len») (machine .«touched_len») ≤ length (now out))
+        × (length (now «register_marks») ≡ registerCount) × (length (now «memory_marks») ≡ memoryWords) × Reportable machine ⌝ }
+    ensures { λ r. ⌜ (r ≡ at + runLength (machine .«trace_len») (machine .«touched_len»))
         × (now (out .exit)
         ≡ over (now (out .entry)) at
         (endRecords marked stop (viewOf machine) (marksOf (now («memory_marks» .entry)) (now («register_marks» .entry)) mark))) ⌝ }
@@ -100,7 +128,7 @@ fn put_run(
     let state = machine.state;
     let counters = machine.counters;
     put_trace(out, at, start, traced, &columns, &numbers);
-    let second = at + 43 * traced;
+    let second = at + TRACE_LENGTH * traced;
     put_cells(
         out,
         second,
@@ -109,9 +137,9 @@ fn put_run(
         &memory,
         memory_marks,
     );
-    let third = second + 1360;
+    let third = second + CELLS_LENGTH;
     put_last(out, third, &touched[..written], stop, state, counters, mark);
-    third + 2 * written + 45
+    third + TOUCHED_LENGTH * written + END_LENGTH
 }
 
 // A report from byte 0 on, of an input and of what its run left; what is answered is its length.
@@ -128,8 +156,8 @@ pub(crate) fn write_report(
     mark: u8,
 ) -> usize
     requires { ⌜ Writable (now out) (now marks) (now breakpoints) (now «register_marks») (now «memory_marks») machine ⌝ }
-    ensures { λ r. ⌜ written r (now (out .exit))
-        ≡ served
+    ensures { λ r. ⌜ answeredLength r (now (out .exit))
+        ≡ delivered
         (reportOn marked
         (inputFrom (now (image .entry)) (now (marks .entry)) (budget .0) (now (breakpoints .entry)))
         (endFrom stop machine (now («register_marks» .entry)) (now («memory_marks» .entry)) mark))
@@ -137,6 +165,6 @@ pub(crate) fn write_report(
 {
     let number = stop.number();
     put_input(out, image, marks, budget, breakpoints);
-    let at = 9485 + 2 * breakpoints.len();
+    let at = BREAK_RECORDS_AT + BREAK_LENGTH * breakpoints.len();
     put_run(out, at, number, machine, register_marks, memory_marks, mark)
 }

@@ -3,9 +3,9 @@
 use Prim.Native.Nat.{ℕ, zero, suc, _+_, _-_, _%_, _^_, _≤_, _<_}
 use native.Mathlib.Omega.{arith}
 use mathlib.Core.Path.{_≡_, refl, ap, sym, _∙_}
-use mathlib.Core.Bool.{Bool, true, false, cond, _&&_}
-use lib.Dec.{leb, ltb, eqb}
-use borrow.Author.Tests.{leb-true, leb-false, eqb-true, le-leb, le-ltb, lt-ltb, eq-eqb, ne-eqb}
+use mathlib.Core.Bool.{Bool, true, false, cond}
+use lib.Dec.{leb}
+use borrow.Author.Tests.{leb-false}
 use Rattle.isa.specs.declared.opcode.Opcode.the-variants.{LoadImmediate, LoadRegister, LoadMemory, StoreMemory, Add, Negate, ShiftRight, ShiftLeft, And, Or, Xor, Jump, Halt}
 use Rattle.isa.specs.declared.opcode.Decoded.{Decoded}
 use Rattle.isa.specs.declared.opcode.Decoded.the-variants.{Known, Unknown}
@@ -18,7 +18,7 @@ use Rattle.control.specs.declared.control.Operands.{Operands}
 use Rattle.control.specs.declared.control.Tick.{Tick}
 use Rattle.tick.specs.Tick.{decodeAs, decodeTick, executeTick, endedTick, laterTick, onward, tickOf}
 use Rattle.control.specs.Lawful.{lawful}
-use Rattle.control.proofs.Lawfuls.{true-false, lawful-fetch, lawful-execute, lawful-small, lawful-count}
+use Rattle.control.proofs.Lawfuls.{lawful-fetch, lawful-execute, lawful-small, lawful-count}
 
 -- after a tick from t: a machine, and the instruction's end or its next tick
 pub record Next (t : ℕ) (c : Control) : Type 0 where

@@ -10,20 +10,12 @@ use Rattle.control.specs.declared.control.Control.{Control}
 use Rattle.control.specs.declared.control.State.{State}
 use Rattle.control.specs.declared.control.Operands.{Operands}
 use Rattle.control.specs.declared.control.Tick.{Tick}
+use Rattle.control.specs.Control.{withPc, withExecuteTicks}
 use Rattle.tick.specs.Tick.{decodeTo, decodeTick, fetchTick, executeTick, onward, tickOf}
 
 -- the control after the fourth tick, from the new PC and the number of execute ticks
 abbrev pub stepped : ℕ → ℕ → Control → Control
-stepped p n c = record {
-  pc = p;
-  ir = c .ir;
-  mar = c .mar;
-  mdr = c .mdr;
-  «instruction_address» = c .«instruction_address»;
-  tick = c .tick;
-  «execute_ticks» = n;
-  halted = c .halted;
-}
+stepped p n c = withPc p (withExecuteTicks n c)
 
 pub decoded-tick : (s : State) {p n : ℕ} {o : Decoded} {r : Tick} → decodeWord (s .control .ir) ≡ o → p ≡ (s .control .pc + 1) % 2 ^ 8 → n ≡ executeTicks o
     → r ≡ decodeTo o s (stepped p n (s .control)) → r ≡ decodeTick s

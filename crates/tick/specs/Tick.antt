@@ -1,7 +1,6 @@
 -- One tick on small values (01, section 3; vm.rs, `micro_step`): the state after it, and what it does to the arrays.
 -- Assumes nothing.
 use Prim.Native.Nat.{ℕ, zero, suc, _+_, _-_, _*_, _/_, _%_, _^_}
-use Prim.Native.String.{String}
 use mathlib.Core.Bool.{Bool, true, false, cond}
 use lib.Bits.{bitAnd, bitOr, bitXor}
 use lib.Dec.{eqb, leb, ltb}
@@ -23,13 +22,8 @@ use Rattle.control.specs.declared.control.Control.{Control}
 use Rattle.control.specs.declared.control.State.{State}
 use Rattle.control.specs.declared.control.Operands.{Operands}
 use Rattle.control.specs.declared.control.Tick.{Tick}
-
--- the control with other registers: pc, ir, mar, mdr, instruction address, tick
-abbrev pub moved : ℕ → ℕ → ℕ → ℕ → ℕ → ℕ → Control → Control
-moved p i m d a t c = record { pc = p; ir = i; mar = m; mdr = d; «instruction_address» = a; tick = t; «execute_ticks» = c .«execute_ticks»; halted = c .halted }
-
-abbrev pub withControl : Control → State → State
-withControl c s = record { control = c; fault = s .fault; «last_transfer» = s .«last_transfer»; «last_alu» = s .«last_alu» }
+use Rattle.control.specs.Address.{reachedAddress}
+use Rattle.control.specs.Control.{withPc, withIr, withMar, withMdr, withAddress, toTick, withExecuteTicks, withHalted, withControl, withFault, withTransfer, withAlu}
 
 -- a tick that reaches no array, and one that writes a register
 abbrev pub plain : State → Tick
@@ -41,62 +35,36 @@ writing s r v = record { state = s; bus = Idle; write = Written r v; completed =
 -- ---- the fetch ticks
 
 abbrev pub fetchAddress : State → Tick
-fetchAddress s = let c = s .control in plain (withControl (moved (c .pc) (c .ir) (c .pc) (c .mdr) (c .pc) 1 c) s)
+fetchAddress s = let c = s .control in plain (withControl (toTick 1 (withMar (c .pc) (withAddress (c .pc) c))) s)
 
 -- a bus read of the value v to MDR, and the tick that follows
 abbrev pub readWord : State → ℕ → ℕ → Tick
 readWord s v t =
     let c = s .control in
     record {
-      state = record { control = moved (c .pc) (c .ir) (c .mar) v (c .«instruction_address») t c; fault = s .fault; «last_transfer» = Read (c .mar) v; «last_alu» = s .«last_alu» };
+      state = withTransfer (Read (c .mar) v) (withControl (toTick t (withMdr v c)) s);
       bus = Read (c .mar) v;
       write = Unwritten;
       completed = false;
     }
 
 abbrev pub fetchInstruction : State → Tick
-fetchInstruction s = let c = s .control in plain (withControl (moved (c .pc) (c .mdr) (c .mar) (c .mdr) (c .«instruction_address») 3 c) s)
+fetchInstruction s = let c = s .control in plain (withControl (toTick 3 (withIr (c .mdr) c)) s)
 
 -- the fourth tick: PC + 1, 255 going to 0, and the execute ticks of the word
 abbrev pub nextPc : ℕ → Control → Control
-nextPc n c = record {
-  pc = (c .pc + 1) % 2 ^ 8;
-  ir = c .ir;
-  mar = c .mar;
-  mdr = c .mdr;
-  «instruction_address» = c .«instruction_address»;
-  tick = c .tick;
-  «execute_ticks» = n;
-  halted = c .halted;
-}
+nextPc n c = withPc ((c .pc + 1) % 2 ^ 8) (withExecuteTicks n c)
 
 abbrev pub stopped : Control → Control
-stopped c = record {
-  pc = c .pc;
-  ir = c .ir;
-  mar = c .mar;
-  mdr = c .mdr;
-  «instruction_address» = c .«instruction_address»;
-  tick = 0;
-  «execute_ticks» = c .«execute_ticks»;
-  halted = true;
-}
+stopped c = toTick 0 (withHalted true c)
 
 -- a word without an opcode ends its instruction there: halted, with a fault, and it does not count
 abbrev pub faultedTick : State → Control → Tick
-faultedTick s c = plain (record {
-  control = stopped c;
-  fault = UnknownInstruction (c .ir) (c .«instruction_address»);
-  «last_transfer» = s .«last_transfer»;
-  «last_alu» = s .«last_alu»;
-})
+faultedTick s c = plain (withFault (UnknownInstruction (c .ir) (c .«instruction_address»)) (withControl (stopped c) s))
 
 -- HALT ends there too, and counts
 abbrev pub haltingTick : State → Control → Tick
 haltingTick s c = record { state = withControl (stopped c) s; bus = Idle; write = Unwritten; completed = true }
-
-abbrev pub toTick : ℕ → Control → Control
-toTick t c = moved (c .pc) (c .ir) (c .mar) (c .mdr) (c .«instruction_address») t c
 
 abbrev pub isHalt : Opcode → Bool
 isHalt LoadImmediate = false
@@ -132,7 +100,7 @@ fetchTick (suc (suc (suc n))) s v = decodeTick s
 -- ---- the execute ticks
 
 abbrev pub toMarTick : State → Tick
-toMarTick s = let c = s .control in plain (withControl (moved (c .pc) (c .ir) (byteYZ (c .ir)) (c .mdr) (c .«instruction_address») (c .tick) c) s)
+toMarTick s = let c = s .control in plain (withControl (withMar (reachedAddress (c .ir)) c) s)
 
 abbrev pub loadTick : ℕ → State → ℕ → Tick
 loadTick zero s v = toMarTick s
@@ -140,13 +108,13 @@ loadTick (suc zero) s v = readWord s v (s .control .tick)
 loadTick (suc (suc n)) s v = writing s (digitX (s .control .ir)) (s .control .mdr)
 
 abbrev pub toMdrTick : State → ℕ → Tick
-toMdrTick s v = let c = s .control in plain (withControl (moved (c .pc) (c .ir) (c .mar) v (c .«instruction_address») (c .tick) c) s)
+toMdrTick s v = let c = s .control in plain (withControl (withMdr v c) s)
 
 abbrev pub writeWord : State → Tick
 writeWord s =
     let c = s .control in
     record {
-      state = record { control = c; fault = s .fault; «last_transfer» = Write (c .mar) (c .mdr); «last_alu» = s .«last_alu» };
+      state = withTransfer (Write (c .mar) (c .mdr)) s;
       bus = Write (c .mar) (c .mdr);
       write = Unwritten;
       completed = false;
@@ -159,11 +127,11 @@ storeTick (suc (suc n)) s v = writeWord s
 
 -- JUMP: yz to PC if Rx = R0
 abbrev pub jumpTick : State → ℕ → ℕ → Tick
-jumpTick s x z = let c = s .control in plain (withControl (moved (cond (eqb x z) (byteYZ (c .ir)) (c .pc)) (c .ir) (c .mar) (c .mdr) (c .«instruction_address») (c .tick) c) s)
+jumpTick s x z = let c = s .control in plain (withControl (withPc (cond (eqb x z) (byteYZ (c .ir)) (c .pc)) c) s)
 
 -- a result of the ALU to a register, with its record
 abbrev pub aluTick : State → ℕ → AluOperation → ℕ → WordOption → ℕ → Tick
-aluTick s r o left right v = writing (record { control = s .control; fault = s .fault; «last_transfer» = s .«last_transfer»; «last_alu» = Used o left right v }) r v
+aluTick s r o left right v = writing (withAlu (Used o left right v) s) r v
 
 -- ADD and NEGATE wrap at 65,536
 abbrev pub sum16 : ℕ → ℕ → ℕ
@@ -225,10 +193,22 @@ executeTick Unknown n s o = plain s
 
 -- after execute tick n: the next one, or the end of the instruction, which counts
 abbrev pub endedTick : Tick → Tick
-endedTick t = record { state = withControl (toTick 0 (t .state .control)) (t .state); bus = t .bus; write = t .write; completed = true }
+endedTick t = record {
+  state = withControl (toTick 0 (t .state .control)) (t .state);
+  bus = t .bus;
+  write = t .write;
+  completed = true;
+}
 
 abbrev pub laterTick : Tick → Tick
-laterTick t = record { state = withControl (toTick ((t .state .control .tick + 1) % 2 ^ 8) (t .state .control)) (t .state); bus = t .bus; write = t .write; completed = false }
+laterTick t =
+    let c = t .state .control in
+    record {
+      state = withControl (toTick ((c .tick + 1) % 2 ^ 8) c) (t .state);
+      bus = t .bus;
+      write = t .write;
+      completed = false;
+    }
 
 abbrev pub onward : ℕ → Tick → Tick
 onward n t = cond (leb (t .state .control .«execute_ticks») (n + 1)) (endedTick t) (laterTick t)

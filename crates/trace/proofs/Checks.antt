@@ -10,7 +10,8 @@ use borrow.Author.Tests.{eq-eqb, eqb-true, eqb-false}
 use lib.Dec.{eqb, ltb}
 use lib.ListN.{replicate, length, getD, take, drop, set, length-drop, take-append-drop}
 use lib.Seq.{drop-cons, getD-drop, getD-take, length-take-le, take-take, take-suc, take-all, take-append-le, take-append-add, getD-set-same, getD-set-other}
-use Rattle.trace.specs.Trace.{turn, shortTexts}
+use Rattle.isa.specs.Sizes.{memoryWords, textWidth}
+use Rattle.trace.specs.Trace.{turn, shortTexts, traceLimit}
 use Rattle.trace.specs.Touched.{distinct}
 use Rattle.encoding.specs.Bytes.{member}
 use Rattle.control.proofs.Lawfuls.{true-false}
@@ -79,16 +80,16 @@ same-bit : (m : Bool) → _≡_ {A = ℕ} (cond (cond m true false) 1 0) (cond m
 same-bit true = refl
 same-bit false = refl
 
-module _ (seen p : List ℕ) (x : ℕ) (long : length seen ≡ 256) (table : (a : ℕ) → a < 256 → getD seen a 0 ≡ cond (member a p) 1 0) where
+module _ (seen p : List ℕ) (x : ℕ) (long : length seen ≡ memoryWords) (table : (a : ℕ) → a < memoryWords → getD seen a 0 ≡ cond (member a p) 1 0) where
   -- the table after one more
-  pub seen-next : (a : ℕ) → a < 256 → getD (set seen x 1) a 0 ≡ cond (member a (p ++ (x ∷ []))) 1 0
+  pub seen-next : (a : ℕ) → a < memoryWords → getD (set seen x 1) a 0 ≡ cond (member a (p ++ (x ∷ []))) 1 0
   seen-next a h = go (eqb x a) refl
     where
       go : (b : Bool) → eqb x a ≡ b → getD (set seen x 1) a 0 ≡ cond (member a (p ++ (x ∷ []))) 1 0
       go true e = rw (mem-last, e, bit (member a p), ← eqb-true x a e) (getD-set-same seen x 1 0 (omega (arith, eqb-true x a e)))
       go false e = rw (mem-last, e, same-bit (member a p), getD-set-other seen x a 1 0 (λ z. eqb-false x a e (sym z))) (table a h)
 
-module _ (seen p : List ℕ) (x : ℕ) (long : length seen ≡ 256) (small : x < 256) (table : (a : ℕ) → a < 256 → getD seen a 0 ≡ cond (member a p) 1 0) where
+module _ (seen p : List ℕ) (x : ℕ) (long : length seen ≡ memoryWords) (small : x < memoryWords) (table : (a : ℕ) → a < memoryWords → getD seen a 0 ≡ cond (member a p) 1 0) where
   -- the table says 1: it came before
   pub is-seen : getD seen x 0 ≡ 1 → member x p ≡ true
   is-seen e = go (member x p) (sym (table x small) ∙ e)
@@ -106,8 +107,8 @@ module _ (seen p : List ℕ) (x : ℕ) (long : length seen ≡ 256) (small : x <
       go false z = refl
 
 -- at first the table is all 0
-pub empty-table : (a : ℕ) → _≡_ {A = ℕ} (getD (replicate 256 0) a 0) 0
-empty-table a = zeros 256 a
+pub empty-table : (a : ℕ) → _≡_ {A = ℕ} (getD (replicate memoryWords 0) a 0) 0
+empty-table a = zeros memoryWords a
   where
     zeros : (n a : ℕ) → _≡_ {A = ℕ} (getD (replicate n 0) a 0) 0
     zeros zero a = refl
@@ -130,16 +131,16 @@ none-there a = refl
 short-append : (a b : List ℕ) → shortTexts (a ++ b) ≡ shortTexts a && shortTexts b
 unfolding shortTexts
 short-append [] b = refl
-short-append (n ∷ a) b = go (ltb 32 n) (short-append a b)
+short-append (n ∷ a) b = go (ltb textWidth n) (short-append a b)
   where
     go : (t : Bool) → shortTexts (a ++ b) ≡ shortTexts a && shortTexts b → cond t false (shortTexts (a ++ b)) ≡ cond t false (shortTexts a) && shortTexts b
     go true e = refl
     go false e = e
 
 -- of one length
-short-one : (n : ℕ) → shortTexts (n ∷ []) ≡ not (ltb 32 n)
+short-one : (n : ℕ) → shortTexts (n ∷ []) ≡ not (ltb textWidth n)
 unfolding shortTexts
-short-one n = go (ltb 32 n)
+short-one n = go (ltb textWidth n)
   where
     go : (t : Bool) → cond t false true ≡ not t
     go true = refl
@@ -152,31 +153,31 @@ short-none l s = let e : s - s ≡ 0 = omega arith in rw e
 
 -- what the loop keeps: one length more, from s on up to i
 pub short-next : (l : List ℕ) (s i : ℕ) (over : Bool) → s ≤ i → i < length l → not over ≡ shortTexts (take (i - s) (drop s l))
-    → not (over || ltb 32 (getD l i 0)) ≡ shortTexts (take (i + 1 - s) (drop s l))
+    → not (over || ltb textWidth (getD l i 0)) ≡ shortTexts (take (i + 1 - s) (drop s l))
 short-next l s i over le lt e =
     let k : i + 1 - s ≡ suc (i - s) = omega arith in
     let j : s + (i - s) ≡ i = omega arith in
     let b : i - s < length (drop s l) = simp length-drop (omega arith) in
     rw (k, take-suc (drop s l) (i - s) 0 b, getD-drop, j, short-append, short-one, ← e) (go over)
   where
-    go : (t : Bool) → not (t || ltb 32 (getD l i 0)) ≡ not t && not (ltb 32 (getD l i 0))
+    go : (t : Bool) → not (t || ltb textWidth (getD l i 0)) ≡ not t && not (ltb textWidth (getD l i 0))
     go true = refl
     go false = refl
 
-module _ (l : List ℕ) (s n : ℕ) (full : length l ≡ 512) where
+module _ (l : List ℕ) (s n : ℕ) (full : length l ≡ traceLimit) where
   -- the live ones are all before the ring's end
-  pub short-linear : s + n ≤ 512 → shortTexts (take (s + n - s) (drop s l)) ≡ shortTexts (take n (turn l s))
+  pub short-linear : s + n ≤ traceLimit → shortTexts (take (s + n - s) (drop s l)) ≡ shortTexts (take n (turn l s))
   short-linear h =
       let k : s + n - s ≡ n = omega arith in
       let b : n ≤ length (drop s l) = simp length-drop (omega arith) in
       rw (k, take-append-le n (drop s l) (take s l) b)
 
   -- they go round it
-  pub short-round : {a b : Bool} → s < 512 → n ≤ 512 → 512 < s + n → a ≡ shortTexts (take (512 - s) (drop s l)) → b ≡ shortTexts (take (s + n - 512 - 0) l) → a && b ≡ shortTexts (take n (turn l s))
+  pub short-round : {a b : Bool} → s < traceLimit → n ≤ traceLimit → traceLimit < s + n → a ≡ shortTexts (take (traceLimit - s) (drop s l)) → b ≡ shortTexts (take (s + n - traceLimit - 0) l) → a && b ≡ shortTexts (take n (turn l s))
   short-round hs hn h first second =
-      let j = s + n - 512 in
+      let j = s + n - traceLimit in
       let b : length (drop s l) + j ≡ n = simp length-drop (omega arith) in
-      let w : length (drop s l) ≤ 512 - s = simp length-drop (omega arith) in
+      let w : length (drop s l) ≤ traceLimit - s = simp length-drop (omega arith) in
       let e : take n (turn l s) ≡ drop s l ++ take j l = ap (λ (k : ℕ). take k (turn l s)) (sym b) ∙ rw (take-append-add, take-take j s l (omega arith)) in
-      let z : s + n - 512 - 0 ≡ j = omega arith in
-      rw (first, second, z, e, short-append, take-all (512 - s) (drop s l) w)
+      let z : s + n - traceLimit - 0 ≡ j = omega arith in
+      rw (first, second, z, e, short-append, take-all (traceLimit - s) (drop s l) w)

@@ -148,10 +148,10 @@ distinct-snoc a (x ∷ xs) d m =
     let n : eqb a x ≡ false = ne-eqb a x (λ e. eqb-false x a (q .0) (sym e)) in
     rw (mem-snoc x a xs n (p .0)) (distinct-snoc a xs (p .1) (q .1))
 
--- writing a byte leaves bytes
-pub bytes-set : (l : List ℕ) (i v : ℕ) → ((j : ℕ) → getD l j 0 < 256) → v < 256 → (j : ℕ) → getD (set l i v) j 0 < 256
-bytes-set [] i v h b j = h j
-bytes-set (x ∷ xs) zero v h b zero = b
-bytes-set (x ∷ xs) zero v h b (suc j) = h (suc j)
-bytes-set (x ∷ xs) (suc i) v h b zero = h 0
-bytes-set (x ∷ xs) (suc i) v h b (suc j) = bytes-set xs i v (λ k. h (suc k)) b j
+-- writing a number below h leaves them below it
+pub below-set : (h : ℕ) (l : List ℕ) (i v : ℕ) → ((j : ℕ) → getD l j 0 < h) → v < h → (j : ℕ) → getD (set l i v) j 0 < h
+below-set h [] i v f b j = f j
+below-set h (x ∷ xs) zero v f b zero = b
+below-set h (x ∷ xs) zero v f b (suc j) = f (suc j)
+below-set h (x ∷ xs) (suc i) v f b zero = f 0
+below-set h (x ∷ xs) (suc i) v f b (suc j) = below-set h xs i v (λ k. f (suc k)) b j

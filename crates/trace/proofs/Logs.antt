@@ -7,8 +7,9 @@ use mathlib.Core.Bool.{Bool}
 use Rattle.isa.specs.Text.{text}
 use Rattle.plan.specs.Plan.{tickText}
 use Rattle.control.specs.Count.{oneMore, more}
-use Rattle.trace.specs.Trace.{Arrays, pushInto, tickPhase}
-use Rattle.trace.specs.Lines.{lines, loggedIn}
+use Rattle.trace.specs.Trace.{Arrays, tickPhase}
+use Rattle.trace.specs.Lines.{lines}
+use Rattle.trace.specs.Forms.{pushInto, loggedIn}
 
 module _ (n : ℕ) where
   pub line-none : (k a : ℕ) (taken : Bool) (w : ℕ) (q : Arrays) → loggedIn (lines (n - 0) 0 k a taken w) q ≡ loggedIn (lines n 0 k a taken w) q

@@ -1,38 +1,39 @@
 -- The array of the touched addresses: one address more.
 -- Assumes nothing.
-use Prim.Native.Nat.{ℕ, _≤_, _<_, _+_}
+use Prim.Native.Nat.{ℕ, _<_, _+_}
 use native.Mathlib.Omega.{arith}
 use native.Mathlib.Numerals.{add-one}
-use native.Mathlib.Decide.{decLt}
-use mathlib.Core.Path.{_≡_, refl, sym}
+use mathlib.Core.Path.{_≡_, refl}
 use mathlib.Core.Bool.{Bool, true, false, cond}
 use mathlib.Core.List.{List, _∷_, [], _++_}
-use borrow.Author.Tests.{lt-ltb, le-ltb}
+use borrow.Author.Tests.{lt-ltb}
 use lib.Dec.{ltb}
 use lib.ListN.{take, set, length-set}
 use lib.Seq.{length-take-le, getD-take, take-suc-set}
+use Rattle.isa.specs.Sizes.{memoryWords}
 use Rattle.encoding.specs.Bytes.{member}
 use Rattle.control.specs.declared.control.BusTransfer.{BusTransfer}
 use Rattle.control.specs.declared.control.BusTransfer.the-variants.{Idle, Read, Write}
-use Rattle.trace.specs.Touched.{noted, touchedBy, TouchFit, Places, placesOf, noteIn, touchIn}
-use Rattle.trace.proofs.Lists.{below-of, full, distinct-snoc, bytes-set}
+use Rattle.trace.specs.Touched.{noted, touchedBy, Addressed, TouchFit}
+use Rattle.trace.specs.Forms.{Places, placesOf, noteIn, touchIn}
+use Rattle.trace.proofs.Lists.{below-of, full, distinct-snoc, below-set}
 
-module _ (items : List ℕ) (n a : ℕ) (f : TouchFit n items) (byte : a < 256) where
+module _ (items : List ℕ) (n a : ℕ) (f : TouchFit n items) (of-memory : a < memoryWords) where
   -- an address that is not there has room
-  room : member a (take n items) ≡ false → n < 256
+  room : member a (take n items) ≡ false → n < memoryWords
   room m =
       let e = length-take-le n items (omega (arith, f .count, f .long)) in
-      let b = below-of 256 (take n items) (λ i h. rw (getD-take n items i 0 (omega arith)) (f .bytes i)) in
-      omega (arith, full 256 a (take n items) (f .differ) b byte m)
+      let b = below-of memoryWords (take n items) (λ i h. rw (getD-take n items i 0 (omega arith)) (f .below i)) in
+      omega (arith, full memoryWords a (take n items) (f .differ) b of-memory m)
 
-  added : n < 256 → take (n + 1) (set items n a) ≡ take n items ++ (a ∷ [])
+  added : n < memoryWords → take (n + 1) (set items n a) ≡ take n items ++ (a ∷ [])
   added h = rw (add-one, take-suc-set items n a (omega (arith, f .long)))
 
-  fits : n < 256 → member a (take n items) ≡ false → TouchFit (n + 1) (set items n a)
+  fits : n < memoryWords → member a (take n items) ≡ false → TouchFit (n + 1) (set items n a)
   fits h m = record {
     count = omega arith;
     long = simp length-set (f .long);
-    bytes = bytes-set items n a (f .bytes) byte;
+    below = below-set memoryWords items n a (f .below) of-memory;
     differ = rw (added h) (distinct-snoc a (take n items) (f .differ) m);
   }
 
@@ -48,14 +49,8 @@ module _ (items : List ℕ) (n a : ℕ) (f : TouchFit n items) (byte : a < 256) 
       same false = (refl, f)
 
       go : (m : Bool) → member a (take n items) ≡ m → Shows (noted a (take n items)) (noteIn a (placesOf n items))
-      go true m = rw m (same (ltb n 256))
-      go false m = let h = room m in rw (lt-ltb n 256 h, m) (added h, fits h m)
-
--- below 256, as a byte is
-abbrev pub Addressed : BusTransfer → Type 0
-Addressed Idle = Unit {0}
-Addressed (Read a v) = Unit {0}
-Addressed (Write a v) = a < 256
+      go true m = rw m (same (ltb n memoryWords))
+      go false m = let h = room m in rw (lt-ltb n memoryWords h, m) (added h, fits h m)
 
 -- an address written into the next place is noted in the live ones
 pub touched-live : (b : BusTransfer) (q : Places) {q' : Places} → q' ≡ touchIn b q → Addressed b → TouchFit (q .count) (q .items)

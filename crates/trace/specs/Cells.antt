@@ -1,9 +1,8 @@
 -- What a transfer does to memory and registers (01, section 3; vm.rs, `micro_step`).
 -- Assumes nothing.
-use Prim.Native.Nat.{ℕ, _%_}
+use Prim.Native.Nat.{ℕ}
 use mathlib.Core.List.{List}
 use lib.ListN.{set}
-use Rattle.isa.specs.Sizes.{registerCount}
 use Rattle.control.specs.declared.control.BusTransfer.{BusTransfer}
 use Rattle.control.specs.declared.control.BusTransfer.the-variants.{Idle, Read, Write}
 use Rattle.control.specs.declared.control.RegisterWrite.{RegisterWrite}
@@ -22,9 +21,3 @@ abbrev pub memoryAfter : BusTransfer → List ℕ → List ℕ
 memoryAfter Idle m = m
 memoryAfter (Read a v) m = m
 memoryAfter (Write a v) m = set m a v
-
--- ---- the code's form: of a register's number the low digit counts
-
-abbrev pub registersBy : RegisterWrite → List ℕ → List ℕ
-registersBy Unwritten r = r
-registersBy (Written i v) r = set r (i % registerCount) v

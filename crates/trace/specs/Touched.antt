@@ -1,11 +1,10 @@
 -- The touched addresses (01, section 3; vm.rs, `bus_write`): each address of a bus write once, in order of first writing.
 -- Assumes nothing.
-use Prim.Native.Nat.{ℕ, _+_, _≤_, _<_}
+use Prim.Native.Nat.{ℕ, _≤_, _<_}
 use mathlib.Core.Path.{_≡_}
 use mathlib.Core.Bool.{Bool, true, false, cond}
 use mathlib.Core.List.{List, [], _∷_, _++_}
-use lib.Dec.{ltb}
-use lib.ListN.{length, take, getD, set}
+use lib.ListN.{length, take, getD}
 use Rattle.isa.specs.Sizes.{memoryWords}
 use Rattle.encoding.specs.Bytes.{member}
 use Rattle.control.specs.declared.control.BusTransfer.{BusTransfer}
@@ -21,6 +20,12 @@ touchedBy Idle l = l
 touchedBy (Read a v) l = l
 touchedBy (Write a v) l = noted a l
 
+-- what a transfer writes to is a word of memory
+abbrev pub Addressed : BusTransfer → Type 0
+Addressed Idle = Unit {0}
+Addressed (Read a v) = Unit {0}
+Addressed (Write a v) = a < memoryWords
+
 -- no address stands there twice
 unfoldable pub distinct : List ℕ → Bool
 distinct [] = true
@@ -30,23 +35,5 @@ distinct (x ∷ xs) = cond (member x xs) false (distinct xs)
 pub record TouchFit (n : ℕ) (t : List ℕ) : Type 0 where
   pub count : n ≤ memoryWords
   pub long : length t ≡ memoryWords
-  pub bytes : (i : ℕ) → getD t i 0 < 256
+  pub below : (i : ℕ) → getD t i 0 < memoryWords
   pub differ : distinct (take n t) ≡ true
-
--- ---- the array, and how many of its places are live
-
-pub record Places : Type 0 where
-  pub count : ℕ
-  pub items : List ℕ
-
-abbrev pub placesOf : ℕ → List ℕ → Places
-placesOf n t = record { count = n; items = t }
-
--- an address written into the next place, unless it is there or there is none
-unfoldable pub noteIn : ℕ → Places → Places
-noteIn a q = cond (ltb (q .count) memoryWords) (cond (member a (take (q .count) (q .items))) q (placesOf (q .count + 1) (set (q .items) (q .count) a))) q
-
-unfoldable pub touchIn : BusTransfer → Places → Places
-touchIn Idle q = q
-touchIn (Read a v) q = q
-touchIn (Write a v) q = noteIn a q

@@ -5,7 +5,7 @@ use mathlib.Core.Path.{_≡_}
 use mathlib.Core.Bool.{Bool, true, false, cond}
 use mathlib.Core.List.{List, [], _∷_, _++_}
 use lib.Dec.{ltb}
-use lib.ListN.{length, take, drop, getD, set}
+use lib.ListN.{length, take, drop, getD}
 use Rattle.isa.specs.Sizes.{textWidth}
 use Rattle.isa.specs.declared.text.Text.{Text}
 use Rattle.plan.specs.Plan.{phaseNumber, phaseOf}
@@ -53,29 +53,25 @@ unfoldable pub liveLengths : ℕ → ℕ → List ℕ → List ℕ
 liveLengths start n l = take n (turn l (start % traceLimit))
 
 -- the last n of a list
-abbrev pub newest : {A : Type 0} → ℕ → List A → List A
-newest n t = drop (length t - n) t
+abbrev pub takeLast : {A : Type 0} → ℕ → List A → List A
+takeLast n t = drop (length t - n) t
 
 -- no text is over 32 bytes
 unfoldable pub shortTexts : List ℕ → Bool
 shortTexts [] = true
 shortTexts (n ∷ l) = cond (ltb textWidth n) false (shortTexts l)
 
--- the buffer d with xs written over it from place at
-abbrev pub pasted : List ℕ → ℕ → List ℕ → List ℕ
-pasted d at xs = take at d ++ xs ++ drop (at + length xs) d
-
 -- ---- the ring with its three arrays, as they are lent: columns of bytes, one behind the other; the numbers; the lengths of the texts
 
 -- where the addresses begin, behind the texts, and the phases; and how long the columns are
 abbrev pub addressesAt : ℕ
-addressesAt = 16384
+addressesAt = textWidth * traceLimit
 
 abbrev pub phasesAt : ℕ
-phasesAt = 16896
+phasesAt = addressesAt + traceLimit
 
 abbrev pub columnsLength : ℕ
-columnsLength = 17408
+columnsLength = phasesAt + traceLimit
 
 -- a column of 512 bytes, from index at on
 unfoldable pub column : ℕ → List ℕ → List ℕ
@@ -117,20 +113,3 @@ pub record TraceFit (start n : ℕ) (k i l : List ℕ) : Type 0 where
 
 abbrev pub ArraysFit : Arrays → Type 0
 ArraysFit q = TraceFit (q .ring .start) (q .ring .len) (q .columns) (q .numbers) (q .lengths)
-
--- the slot of the next record: the one past the newest, and of 512 the oldest one's
-abbrev pub slotOf : Ring → ℕ
-slotOf g = (g .start % traceLimit + g .len % traceLimit) % traceLimit
-
-unfoldable pub nextRing : Ring → Ring
-nextRing g = record { start = cond (ltb (g .len) traceLimit) (g .start % traceLimit) ((g .start % traceLimit + 1) % traceLimit); len = cond (ltb (g .len) traceLimit) (g .len + 1) (g .len) }
-
--- a record's bytes written into the columns at slot k
-unfoldable pub putColumns : TraceRecord → ℕ → List ℕ → List ℕ
-putColumns e k c = set (set (pasted c (k * textWidth) (e .text .bytes)) (addressesAt + k) (e .address)) (phasesAt + k) (e .phase)
-
--- a record written into its slot
-unfoldable pub pushInto : TraceRecord → Arrays → Arrays
-pushInto e q =
-    let k = slotOf (q .ring) in
-    arraysOf (nextRing (q .ring)) (putColumns e k (q .columns)) (set (q .numbers) k (e .number)) (set (q .lengths) k (e .text .len))

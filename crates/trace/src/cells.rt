@@ -1,6 +1,7 @@
 // What a transfer does to memory and registers.
 ghost use mathlib.Core.Path.{_≡_};
-ghost use Rattle.trace.specs.Cells.{registersBy, memoryAfter};
+ghost use Rattle.trace.specs.Cells.{memoryAfter};
+ghost use Rattle.trace.specs.Forms.{registersBy};
 use control::BusTransfer;
 use control::RegisterWrite;
 use isa::MEMORY_WORDS;
@@ -13,7 +14,7 @@ pub fn set_register(w: RegisterWrite, registers: &mut [u16; REGISTER_COUNT])
     match w {
         RegisterWrite::Unwritten => {}
         RegisterWrite::Written { register, value } => {
-            let i = (register % 16) as usize;
+            let i = register as usize % REGISTER_COUNT;
             registers[i] = value;
         }
     }

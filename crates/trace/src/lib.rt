@@ -7,6 +7,7 @@ mod touched;
 
 pub use cells::set_register;
 pub use cells::set_word;
+use isa::TEXT_WIDTH;
 pub use lines::push_lines;
 pub use records::Ring;
 pub use records::TraceRecord;
@@ -16,9 +17,9 @@ pub use touched::touch;
 
 // The most records of a trace.
 pub const TRACE_LIMIT: usize = 512;
-// The columns of bytes: texts, addresses, phases.
-pub const ADDRESSES_AT: usize = 16384;
+// The columns of bytes, one behind the other: texts, addresses, phases.
+pub const ADDRESSES_AT: usize = TEXT_WIDTH * TRACE_LIMIT;
 
-pub const PHASES_AT: usize = 16896;
+pub const PHASES_AT: usize = ADDRESSES_AT + TRACE_LIMIT;
 
-pub const COLUMNS_LENGTH: usize = 17408;
+pub const COLUMNS_LENGTH: usize = PHASES_AT + TRACE_LIMIT;

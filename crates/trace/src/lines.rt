@@ -1,7 +1,7 @@
 // The records of a whole instruction, one after the other.
 ghost use mathlib.Core.Path.{_≡_};
-ghost use Rattle.trace.specs.Trace.{arraysOf};
-ghost use Rattle.trace.specs.Lines.{lines, loggedIn};
+ghost use Rattle.trace.specs.Lines.{lines};
+ghost use Rattle.trace.specs.Forms.{arraysAtFirst, arraysAtLast, loggedIn};
 use crate::COLUMNS_LENGTH;
 use crate::TRACE_LIMIT;
 use crate::records::Ring;
@@ -21,8 +21,8 @@ pub fn push_lines(
     numbers: &mut [u64; TRACE_LIMIT],
     lengths: &mut [u8; TRACE_LIMIT],
 ) -> Ring
-    ensures { λ r. ⌜ arraysOf r (now (columns .exit)) (now (numbers .exit)) (now (lengths .exit))
-        ≡ loggedIn (lines n 0 before address taken word) (arraysOf ring (now (columns .entry)) (now (numbers .entry)) (now (lengths .entry))) ⌝ }
+    ensures { λ r. ⌜ arraysAtLast r columns numbers lengths
+        ≡ loggedIn (lines n 0 before address taken word) (arraysAtFirst ring columns numbers lengths) ⌝ }
 {
     let mut q = ring;
     let mut tick: u8 = 0;

@@ -5,11 +5,15 @@
 ghost use mathlib.Core.Path.{_≡_};
 ghost use Prim.Native.Nat.{_<_, _*_};
 ghost use lib.ListN.{length};
-ghost use Rattle.trace.specs.Trace.{columnsLength, pasted, arraysOf, tickPhase, nextRing, pushInto};
+ghost use Rattle.isa.specs.Sizes.{textWidth};
+ghost use Rattle.encoding.specs.Bytes.{over};
+ghost use Rattle.trace.specs.Trace.{traceLimit, columnsLength, tickPhase};
+ghost use Rattle.trace.specs.Forms.{arraysAtFirst, arraysAtLast, nextRing, pushFields};
 use crate::ADDRESSES_AT;
 use crate::COLUMNS_LENGTH;
 use crate::PHASES_AT;
 use crate::TRACE_LIMIT;
+use isa::TEXT_WIDTH;
 use isa::Text;
 use plan::phase_of;
 
@@ -29,12 +33,12 @@ pub struct Ring {
 }
 
 fn put_text(t: Text, at: usize, out: &mut [u8])
-    requires { ⌜ (at < 512) × (length (now out) ≡ columnsLength) ⌝ }
-    ensures { λ r. ⌜ now (out .exit) ≡ pasted (now (out .entry)) (at * 32) (t .bytes) ⌝ }
+    requires { ⌜ (at < traceLimit) × (length (now out) ≡ columnsLength) ⌝ }
+    ensures { λ r. ⌜ now (out .exit) ≡ over (now (out .entry)) (at * textWidth) (t .bytes) ⌝ }
 {
     let mut i = 0;
-    while i < 32 {
-        out[at * 32 + i] = t.bytes[i];
+    while i < TEXT_WIDTH {
+        out[at * TEXT_WIDTH + i] = t.bytes[i];
         i += 1;
     }
 }
@@ -78,7 +82,8 @@ pub fn push_trace(
     numbers: &mut [u64; TRACE_LIMIT],
     lengths: &mut [u8; TRACE_LIMIT],
 ) -> Ring
-    ensures { λ r. ⌜ arraysOf r (now (columns .exit)) (now (numbers .exit)) (now (lengths .exit)) ≡ pushInto (record { number = number; address = address; phase = phase; text = text }) (arraysOf ring (now (columns .entry)) (now (numbers .entry)) (now (lengths .entry))) ⌝ }
+    ensures { λ r. ⌜ arraysAtLast r columns numbers lengths
+        ≡ pushFields number address phase text (arraysAtFirst ring columns numbers lengths) ⌝ }
 {
     let from = ring.start % TRACE_LIMIT;
     let room = ring.len % TRACE_LIMIT;

@@ -3,28 +3,26 @@
 use Prim.Native.Nat.{ℕ, zero, suc, _+_}
 use mathlib.Core.Path.{_≡_, refl, ap, _∙_}
 use mathlib.Core.Bool.{false}
-use mathlib.Core.List.{List, []}
+use mathlib.Core.List.{List}
 use lib.ListN.{getD}
 use Rattle.isa.specs.declared.opcode.Opcode.the-variants.{LoadImmediate, LoadRegister, LoadMemory, StoreMemory, Add, Negate, ShiftRight, ShiftLeft, And, Or, Xor, Jump, Halt}
 use Rattle.isa.specs.declared.opcode.Decoded.{Decoded}
 use Rattle.isa.specs.declared.opcode.Decoded.the-variants.{Known, Unknown}
-use Rattle.isa.specs.Word.{decodeWord, digitX}
+use Rattle.isa.specs.Word.{decodeWord}
 use Rattle.isa.specs.Format.{fill}
 use Rattle.plan.specs.Plan.{executeTicks, fetchText, tickTemplate, tickText}
 use Rattle.control.specs.Count.{countTick}
 use Rattle.tick.specs.Tick.{executeTick}
-use lib.Dec.{eqb}
 use Rattle.guard.specs.declared.stops.RunStop.{RunStop}
 use Rattle.guard.specs.Stops.{Verdict, go, stop, after}
 use Rattle.trace.specs.declared.records.TraceRecord.{TraceRecord}
 use Rattle.vm.specs.Machine.{Machine}
 use Rattle.vm.specs.Instruction.{Steps, stepInstruction}
 use Rattle.vm.specs.Run.{verdict, runEnd, run}
-use Rattle.vm.proofs.Turns.{at}
+use Rattle.vm.proofs.TickTurns.{at}
 use Rattle.vm.proofs.Runs.{running}
-use Rattle.vm.proofs.Steps.{Public, publicOf, Hidden, hiddenOf, whole, fetched, fetchedHidden, decoded, finished, finishedDone, instruction-steps}
+use Rattle.vm.proofs.Steps.{publicOf, hiddenOf, fetched, fetchedHidden, decoded, finished, finishedDone, instruction-steps}
 use Rattle.trace.specs.Lines.{lines, logged}
-use Rattle.direct.specs.Work.{worked}
 use Rattle.direct.specs.Light.{Light, wordAt, workOf, takenBy, recordsOf}
 use Rattle.vm.specs.Direct.{lightOf, wholeBy, lastDone, directOn, direct, directRun}
 

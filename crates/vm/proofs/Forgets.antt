@@ -4,11 +4,10 @@ use Prim.Native.Nat.{ℕ, zero, suc, _+_, _-_, _≤_, _<_}
 use native.Mathlib.Omega.{arith}
 use native.Mathlib.Decide.{decLt}
 use mathlib.Core.Path.{_≡_, refl, ap, sym, _∙_}
-use mathlib.Core.List.{List, [], _∷_, _++_, append-assoc, append-nil}
+use mathlib.Core.List.{List, [], _∷_, _++_}
 use borrow.Author.Tests.{lt-ltb, le-ltb}
 use lib.ListN.{length, drop, length-append, length-drop}
-use lib.Seq.{drop-append-le, drop-drop}
-use Rattle.trace.specs.Trace.{pushed, newest}
+use Rattle.trace.specs.Trace.{pushed, takeLast}
 use Rattle.vm.proofs.Newest.{newest-pushed}
 use Rattle.trace.specs.Lines.{logged}
 
@@ -44,12 +43,12 @@ module _ {A : Type 0} where
   pub record Alike (k : ℕ) (t u : List A) : Type 0 where
     pub first : k ≤ length t
     pub second : k ≤ length u
-    pub same : newest k t ≡ newest k u
+    pub same : takeLast k t ≡ takeLast k u
 
   none-alike : (t u : List A) → Alike 0 t u
   none-alike t u = record { first = omega arith; second = omega arith; same = past t ∙ sym (past u) }
     where
-      past : (t : List A) → newest 0 t ≡ []
+      past : (t : List A) → takeLast 0 t ≡ []
       past t = drop-all t (length t - 0) (omega arith)
         where
           drop-all : (t : List A) (n : ℕ) → length t ≤ n → drop n t ≡ []
@@ -67,7 +66,7 @@ module _ {A : Type 0} where
       }
 
   -- all 512 of them
-  whole-newest : (t : List A) → length t ≡ 512 → newest 512 t ≡ t
+  whole-newest : (t : List A) → length t ≡ 512 → takeLast 512 t ≡ t
   whole-newest t e = let z : length t - 512 ≡ 0 = omega arith in ap (λ (n : ℕ). drop n t) z
 
   all-alike : (t u : List A) → length t ≤ 512 → length u ≤ 512 → Alike 512 t u → t ≡ u

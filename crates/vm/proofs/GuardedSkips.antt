@@ -11,17 +11,16 @@ use Rattle.control.specs.declared.control.Fault.{Fault}
 use Rattle.trace.specs.declared.records.TraceRecord.{TraceRecord}
 use Rattle.marks.specs.Marks.{Marks, mdrMarked, instructionMarks}
 use Rattle.marks.proofs.Moves.{fetch-opens}
-use Rattle.guard.specs.Stops.{Verdict, go, reached, hiddenJump, guardIf}
+use Rattle.guard.specs.Stops.{go, reached, hiddenJump, guardIf}
 use Rattle.vm.specs.Machine.{Machine}
-use Rattle.vm.specs.Guard.{Guarded, nextWord, guardedStep, guard, guardedRun}
+use Rattle.vm.specs.Guard.{Guarded, nextWord, guardedStep, guardedRun}
 use Rattle.vm.proofs.Plain.{instructions, guardedSteps, plain-steps}
-use Rattle.trace.specs.Lines.{logged}
 use Rattle.direct.specs.Work.{halts}
 use Rattle.direct.specs.Light.{Light, wordAt, lightSteps, recordsIn, marksSteps}
 use Rattle.vm.specs.Direct.{lightOf}
 use Rattle.vm.proofs.Forgets.{few-logged}
-use Rattle.vm.proofs.Skips.{Ready, Lasts, After, after, twins, steps-add}
-use Rattle.vm.proofs.Taken.{Taken, taken-run}
+use Rattle.vm.proofs.Skips.{Ready, Lasts, after, twins, steps-add}
+use Rattle.vm.proofs.GuardedBegun.{Taken, taken-run}
 
 guarded-back : (k : ℕ) (g : Guarded) → guardedSteps (suc k) g ≡ guardedStep (guardedSteps k g)
 unfolding guardedSteps

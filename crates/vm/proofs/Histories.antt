@@ -8,6 +8,7 @@ use mathlib.Core.List.{List, [], _∷_}
 use borrow.Author.Tests.{ltb-false, le-ltb, le-leb, eq-eqb, ne-eqb}
 use lib.Dec.{eqb, leb, ltb}
 use lib.ListN.{length, drop}
+use Rattle.isa.specs.Sizes.{memoryWords}
 use Rattle.encoding.specs.Bytes.{number}
 use Rattle.control.specs.Lawful.{lawful}
 use Rattle.control.proofs.Lawfuls.{both}
@@ -16,10 +17,10 @@ use Rattle.control.specs.declared.counters.Counters.{Counters}
 use Rattle.history.specs.declared.differing.Differences.{Differences}
 use Rattle.history.specs.declared.snapshot.Newest.{Newest}
 use Rattle.history.specs.declared.snapshot.Snapshot.{Snapshot}
-use Rattle.history.specs.Record.{found, noRecord, blank, snapshotIn, isRecord, recordIn, Fits}
+use Rattle.history.specs.Record.{recordLength, found, noRecord, blank, snapshotIn, isRecord, recordIn, Fits}
 use Rattle.history.specs.Store.{limitOf, pushCount, pushStore, recordAt, isHeld, newest}
 use Rattle.history.specs.Differences.{differencesOf, Ascending}
-use Rattle.history.proofs.Stores.{served, length-push, newest-pushed}
+use Rattle.history.proofs.Stores.{push-served, length-push, newest-pushed}
 use Rattle.history.proofs.Collects.{differences-ascending, differences-count, differences-live}
 use Rattle.vm.specs.declared.machine.Machine.{Machine as Code}
 use Rattle.vm.specs.declared.machine.Served.{Served}
@@ -82,20 +83,20 @@ module _ (d : List ℕ) (m : Code) {w : Newest} {r : ℕ} (e : w ≡ newest d (m
 -- ---- a served push
 
 -- what it was tested for
-pub store-served : (n : ℕ) (m : Code) → storeRefusal n m ≡ 0 → (576 ≤ n) × ((isMachine m ≡ true) × (m .«history_len» ≤ limitOf n))
+pub store-served : (n : ℕ) (m : Code) → storeRefusal n m ≡ 0 → (recordLength ≤ n) × ((isMachine m ≡ true) × (m .«history_len» ≤ limitOf n))
 unfolding storeRefusal
-store-served n m e = go (ltb n 576) (isMachine m) (ltb (limitOf n) (m .«history_len»)) refl refl refl e
+store-served n m e = go (ltb n recordLength) (isMachine m) (ltb (limitOf n) (m .«history_len»)) refl refl refl e
   where
-    go : (a b c : Bool) → ltb n 576 ≡ a → isMachine m ≡ b → ltb (limitOf n) (m .«history_len») ≡ c → _≡_ {A = ℕ} (cond a 7 (cond b (cond c 8 0) 8)) 0 → (576 ≤ n) × ((isMachine m ≡ true) × (m .«history_len» ≤ limitOf n))
+    go : (a b c : Bool) → ltb n recordLength ≡ a → isMachine m ≡ b → ltb (limitOf n) (m .«history_len») ≡ c → _≡_ {A = ℕ} (cond a 7 (cond b (cond c 8 0) 8)) 0 → (recordLength ≤ n) × ((isMachine m ≡ true) × (m .«history_len» ≤ limitOf n))
     go true b c p q r z = absurd (omega (arith, z))
     go false false c p q r z = absurd (omega (arith, z))
     go false true true p q r z = absurd (omega (arith, z))
-    go false true false p q r z = (ltb-false n 576 p, (q, ltb-false (limitOf n) (m .«history_len») r))
+    go false true false p q r z = (ltb-false n recordLength p, (q, ltb-false (limitOf n) (m .«history_len») r))
 
 -- and where the tests pass it is served
-store-fine : (n : ℕ) (m : Code) → 576 ≤ n → isMachine m ≡ true → m .«history_len» ≤ limitOf n → storeRefusal n m ≡ 0
+store-fine : (n : ℕ) (m : Code) → recordLength ≤ n → isMachine m ≡ true → m .«history_len» ≤ limitOf n → storeRefusal n m ≡ 0
 unfolding storeRefusal
-store-fine n m h e l = rw (le-ltb n 576 h, e, le-ltb (limitOf n) (m .«history_len») l)
+store-fine n m h e l = rw (le-ltb n recordLength h, e, le-ltb (limitOf n) (m .«history_len») l)
 
 undo-fine : (n : ℕ) (m : Code) → storeRefusal n m ≡ 0 → (m .«history_len» ≡ 0 → ⊥) → undoRefusal n true m ≡ 0
 unfolding undoRefusal
@@ -114,7 +115,7 @@ module _ (d : List ℕ) (m later : Code) (f : Fits (snapshotOf m)) (e : storeRef
       let h = store-served (length d) m e in
       let s = snapshotOf m in
       let k = m .«history_len» in
-      let p = served d k s (h .0) (h .1 .1) in
+      let p = push-served d k s (h .0) (h .1 .1) in
       let n : length (pushStore d k s) ≡ length d = length-push d k s f (h .0) (h .1 .1) in
       let c : later .«history_len» ≡ pushCount (length d) k = same ∙ saved-count (length d) m e in
       let w : newest (pushStore d k s) (later .«history_len») ≡ found s = ap (newest (pushStore d k s)) c ∙ newest-pushed d k s f (h .0) (h .1 .1) (both (lawful (m .state .control)) _ (h .1 .0) .0) in
@@ -159,18 +160,18 @@ saved-lasts n m e = go (eqb (storeRefusal n m) 0)
     go false = e
 
 -- the image's array has 256 words, as its type tells
-restored-ok : (s : Snapshot) (m : Code) → length (m .image) ≡ 256 → lawful (s .control) ≡ true → isMachine m ≡ true → isMachine (restored s m) ≡ true
+restored-ok : (s : Snapshot) (m : Code) → length (m .image) ≡ memoryWords → lawful (s .control) ≡ true → isMachine m ≡ true → isMachine (restored s m) ≡ true
 unfolding restored partsOk
 restored-ok s m z law e =
     let e1 = both (lawful (m .state .control)) _ e in
-    let e2 = both (leb (m .«image_len») 256) _ (e1 .1) in
+    let e2 = both (leb (m .«image_len») memoryWords) _ (e1 .1) in
     let e3 = both (leb (m .«trace_len») 512) _ (e2 .1) in
     let e4 = both (shortTexts (liveLengths (m .«trace_start») (m .«trace_len») (m .lengths))) _ (e3 .1) in
-    let few : length (m .image) ≤ 256 = omega (arith, z) in
+    let few : length (m .image) ≤ memoryWords = omega (arith, z) in
     rw (law, e2 .0, e3 .0, e4 .0, le-leb _ _ (differences-count (m .image) (s .memory) few), differences-live (m .image) (s .memory) few)
-    (all-differ 0 256 _ (differences-ascending (m .image) (s .memory) few))
+    (all-differ 0 memoryWords _ (differences-ascending (m .image) (s .memory) few))
 
-pub undone-lasts : (d : List ℕ) (m : Code) → length (m .image) ≡ 256 → isMachine m ≡ true → isMachine (undone d m .machine) ≡ true
+pub undone-lasts : (d : List ℕ) (m : Code) → length (m .image) ≡ memoryWords → isMachine m ≡ true → isMachine (undone d m .machine) ≡ true
 unfolding undone serve
 undone-lasts d m z e = go (eqb (undoRefusal (length d) (newest d (m .«history_len») .good) m) 0)
   where

@@ -1,20 +1,25 @@
--- The laws by subject: `Ticks`, `Turns` and `Runs` of a tick, a turn of the loop over ticks and one over instructions, `Guards` of a turn of the guarded loop, `Newest` of the texts that an instruction leaves in the trace and of its end, `Fits` of the calls by their tests, `Starts` of the calls that start a machine anew, `Loads` of the guarded run's input and its new machine, `Plain`, that the guarded machine is the plain one, `Steps`, an instruction tick by tick, `Direct`, that a whole instruction is its ticks, `Wholes`, that the code's whole instruction is that, `Forgets`, that a trace forgets, `Taken`, `Skips` and `GuardedSkips` of runs whose first instructions are made without their records, `Passes` of the code that makes them, `Histories` of the calls on the history, and `Reached`, that served calls leave a machine.
+-- The laws by subject. Of ticks and instructions: `Ticks`, `TickTurns` (a turn of the loop over ticks), `Newest` (the texts
+-- that an instruction leaves, and its end), `Steps` (an instruction tick by tick), `Direct` (a whole instruction is its ticks), `DirectParts` (the code's whole instruction is that).
+-- Of runs: `Runs` and `Guards` (a turn of the loop over instructions, and of the guarded one), `Plain` (the guarded machine is the plain one), `Forgets`
+-- (a trace forgets), `Skips`, `GuardedBegun` and `GuardedSkips` (runs whose first instructions are made without records), `Ahead` (the code that makes them).
+-- Of calls: `Fits` (their tests), `Starts` (those that start a machine anew), `GuardedStarts` (the guarded run's input and new machine), `Histories`, and
+-- `Reached` (served calls leave a machine).
 pub mod Ticks
-pub mod Turns
-pub mod Runs
-pub mod Guards
+pub mod TickTurns
 pub mod Newest
-pub mod Fits
-pub mod Starts
-pub mod Loads
-pub mod Plain
-pub mod Histories
-pub mod Reached
 pub mod Steps
 pub mod Direct
-pub mod Wholes
+pub mod DirectParts
+pub mod Runs
+pub mod Guards
+pub mod Plain
 pub mod Forgets
 pub mod Skips
-pub mod Taken
+pub mod GuardedBegun
 pub mod GuardedSkips
-pub mod Passes
+pub mod Ahead
+pub mod Fits
+pub mod Starts
+pub mod GuardedStarts
+pub mod Histories
+pub mod Reached

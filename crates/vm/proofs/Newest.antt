@@ -15,11 +15,11 @@ use Rattle.control.specs.Lawful.{lawful}
 use Rattle.control.proofs.Lawfuls.{lawful-small}
 use Rattle.tick.proofs.Lawfuls.{Next, tick-next}
 use Rattle.trace.specs.declared.records.TraceRecord.{TraceRecord}
-use Rattle.trace.specs.Trace.{pushed, slots, turn, textAt, recordAt, liveTrace, liveTexts, newest}
+use Rattle.trace.specs.Trace.{pushed, slots, turn, textAt, recordAt, liveTrace, liveTexts, takeLast}
 use Rattle.vm.specs.Machine.{Machine, operandsOf, nextText, nextDone, microStep}
 use Rattle.vm.specs.Instruction.{Steps, started, ticked, unlessZero, steps, stepInstruction, tickTexts}
 use Rattle.trace.proofs.Rings.{length-slots, live-length}
-use Rattle.vm.proofs.Turns.{spent}
+use Rattle.vm.proofs.TickTurns.{spent}
 
 -- ---- a text is copied out of its slot
 
@@ -55,15 +55,15 @@ module _ {A : Type 0} where
           ap (λ (k : ℕ). getD (turn l s) k d) (sym b) ∙ getD-append-add (drop s l) (take s l) j d ∙ getD-take s l j d (omega arith) ∙ ap (λ (k : ℕ). getD l k d) (sym m)
 
   -- there are n of the newest n
-  pub length-newest : (n : ℕ) (t : List A) → n ≤ length t → length (newest n t) ≡ n
+  pub length-newest : (n : ℕ) (t : List A) → n ≤ length t → length (takeLast n t) ≡ n
   length-newest n t h = simp length-drop (omega arith)
 
   -- past the newest n there is nothing
-  pub newest-past : (n i : ℕ) (t : List A) (d : A) → n ≤ length t → n ≤ i → getD (newest n t) i d ≡ d
-  newest-past n i t d h k = List·getD-eq-default (newest n t) d (omega (arith, length-newest n t h))
+  pub newest-past : (n i : ℕ) (t : List A) (d : A) → n ≤ length t → n ≤ i → getD (takeLast n t) i d ≡ d
+  newest-past n i t d h k = List·getD-eq-default (takeLast n t) d (omega (arith, length-newest n t h))
 
   -- of none there are none
-  newest-none : (t : List A) → newest 0 t ≡ []
+  newest-none : (t : List A) → takeLast 0 t ≡ []
   newest-none t = drop-of-length-le t {i = length t - 0} (omega arith)
 
 -- there are as many live texts as the ring says
@@ -77,7 +77,7 @@ unfolding liveTrace
 trace-length start n x i a p l h = live-length (slots 512 (recordAt x i a p l)) (start % 512) n (recordAt x i a p l 0) (length-slots 512 (recordAt x i a p l)) (omega arith) h
 
 -- text i of the newest n
-pub newest-at : (start len n i : ℕ) (x l : List ℕ) (d : Text) → n ≤ len → len ≤ 512 → i < n → textAt x l ((start % 512 + len - n + i) % 512) ≡ getD (newest n (liveTexts start len x l)) i d
+pub newest-at : (start len n i : ℕ) (x l : List ℕ) (d : Text) → n ≤ len → len ≤ 512 → i < n → textAt x l ((start % 512 + len - n + i) % 512) ≡ getD (takeLast n (liveTexts start len x l)) i d
 unfolding liveTexts
 newest-at start len n i x l d h k b =
     let s = start % 512 in
@@ -127,11 +127,11 @@ texts-of start n x i a p l =
 
 module _ {A : Type 0} (e : A) (t : List A) (k : ℕ) (hk : k ≤ length t) (room : k < 512) (h : length t ≤ 512) where
   -- the newest k, and then the new one
-  pub newest-pushed : newest (k + 1) (pushed e t) ≡ newest k t ++ (e ∷ [])
+  pub newest-pushed : takeLast (k + 1) (pushed e t) ≡ takeLast k t ++ (e ∷ [])
   unfolding pushed
   newest-pushed = go (decLt (length t) 512)
     where
-      go : Dec (length t < 512) → newest (k + 1) (pushed e t) ≡ newest k t ++ (e ∷ [])
+      go : Dec (length t < 512) → takeLast (k + 1) (pushed e t) ≡ takeLast k t ++ (e ∷ [])
       go (yes y) =
           let z : length (t ++ (e ∷ [])) - (k + 1) ≡ length t - k = omega (arith, length-append t (e ∷ [])) in
           rw (lt-ltb _ _ y, z) (drop-append-le (length t - k) t (e ∷ []) (omega arith))
@@ -161,14 +161,14 @@ one-step m = spent m 0 refl refl 1 refl
 record Made (k : ℕ) (s z : Steps) (l : List Text) : Type 0 where
   count : z .ticks ≡ s .ticks + length l
   held : k + length l ≤ length (z .machine .trace)
-  same : textsOf (newest (k + length l) (z .machine .trace)) ≡ textsOf (newest k (s .machine .trace)) ++ l
+  same : textsOf (takeLast (k + length l) (z .machine .trace)) ≡ textsOf (takeLast k (s .machine .trace)) ++ l
 
 -- no tick is made
 none : (k : ℕ) (s : Steps) → k ≤ length (s .machine .trace) → Made k s s []
 none k s h = record {
   count = omega arith;
   held = omega arith;
-  same = rw append-nil (ap (λ (j : ℕ). textsOf (newest j (s .machine .trace))) (omega arith));
+  same = rw append-nil (ap (λ (j : ℕ). textsOf (takeLast j (s .machine .trace))) (omega arith));
 }
 
 -- one tick is made before
@@ -183,10 +183,10 @@ more k s z l h r b q =
       count = omega (arith, q .count);
       held = omega (arith, q .held);
       same =
-          ap (λ (j : ℕ). textsOf (newest j (z .machine .trace))) (sym w)
+          ap (λ (j : ℕ). textsOf (takeLast j (z .machine .trace))) (sym w)
           ∙ q .same
-          ∙ ap (λ (r : List Text). r ++ l) (ap textsOf (newest-pushed _ t k h r b) ∙ map-append g (newest k t) _)
-          ∙ append-assoc (textsOf (newest k t)) (x ∷ []) l;
+          ∙ ap (λ (r : List Text). r ++ l) (ap textsOf (newest-pushed _ t k h r b) ∙ map-append g (takeLast k t) _)
+          ∙ append-assoc (textsOf (takeLast k t)) (x ∷ []) l;
     }
 
 -- ticks until one ends the instruction
@@ -214,10 +214,10 @@ texts-few (suc f) m = go (microStep m .state .control .tick) (texts-few f (micro
     go (suc t) i = omega arith
 
 -- the newest records are those of the ticks just made
-pub made : (f : ℕ) (m : Machine) → f ≤ 512 → length (m .trace) ≤ 512 → map (λ (r : TraceRecord). r .text) (newest (steps f (started m) .ticks) (steps f (started m) .machine .trace)) ≡ tickTexts f m
+pub made : (f : ℕ) (m : Machine) → f ≤ 512 → length (m .trace) ≤ 512 → map (λ (r : TraceRecord). r .text) (takeLast (steps f (started m) .ticks) (steps f (started m) .machine .trace)) ≡ tickTexts f m
 made f m h b =
     let q = makes f 0 (started m) (omega arith) b (omega arith) in
-    ap (λ (j : ℕ). textsOf (newest j (steps f (started m) .machine .trace))) (q .count)
+    ap (λ (j : ℕ). textsOf (takeLast j (steps f (started m) .machine .trace))) (q .count)
     ∙ q .same
     ∙ ap (λ (r : List TraceRecord). textsOf r ++ tickTexts f m) (newest-none (m .trace))
 

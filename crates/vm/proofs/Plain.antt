@@ -23,15 +23,15 @@ use Rattle.guard.specs.declared.stops.RunStop.{RunStop}
 use Rattle.guard.specs.declared.stops.RunStop.the-variants.{Breakpoint as RunBreakpoint, Budget as RunBudget, Refused}
 use Rattle.vm.specs.Machine.{Machine, microStep}
 use Rattle.vm.specs.Instruction.{Steps, started, ticked, unlessZero, steps, stepInstruction}
-use Rattle.vm.specs.Run.{verdict, closed, RunEnd, run}
-use Rattle.guard.specs.Stops.{Verdict, go, stop, haltStop, reached, verdictIf, stopNumber, told, refusalIn, numberIn}
+use Rattle.vm.specs.Run.{verdict, closed, runNumber, RunEnd, run}
+use Rattle.guard.specs.Stops.{Verdict, go, stop, haltStop, reached, verdictIf, stopNumber, runCode, refusalIn}
 use Rattle.vm.specs.Calls.{restarted}
-use Rattle.vm.specs.Guard.{Guarded, GuardedEnd, nextWord, guardedStep, guardClosed, guardedEnd, guard, guardedRun, guardedStart, guardedOf}
+use Rattle.vm.specs.Guard.{Guarded, GuardedEnd, nextWord, guardedStep, guardedEnd, guard, guardedRun, guardedStart, guardedOf}
 use Rattle.guard.specs.Input.{Input, inputRefusal}
 use Rattle.guard.specs.Stops.{haltedStop, guardIf, hiddenJump}
 use Rattle.vm.proofs.Runs.{run-stops, run-goes}
 use Rattle.vm.proofs.Guards.{guard-stops, guard-goes, going}
-use Rattle.vm.proofs.Loads.{served-input}
+use Rattle.vm.proofs.GuardedStarts.{served-input}
 
 -- ---- instructions of a machine, and of a guarded one
 
@@ -85,13 +85,13 @@ module _ (hid : ℕ → Bool) (b : List ℕ) where
   ends k (suc n) g = turn k n g (guard hid b k (suc n) g) refl (ends (k + 1) n (guardedStep g))
 
   -- at any stop: the plain machine after that many instructions, closed as the stop closes it
-  pub plain-end : (n : ℕ) (g : Guarded) → let e = guardedRun hid b 0 n g in e .guarded .machine ≡ guardClosed (e .stop) (instructions (e .executed) (g .machine))
+  pub plain-end : (n : ℕ) (g : Guarded) → let e = guardedRun hid b 0 n g in e .guarded .machine ≡ closed (stopNumber (e .stop)) (instructions (e .executed) (g .machine))
   plain-end n g =
       let e = guardedRun hid b 0 n g in
       let r = ends 0 n g in
       let z : r .count ≡ e .executed = omega (arith, ap (λ (x : GuardedEnd). x .executed) (r .end)) in
       ap (λ (x : GuardedEnd). x .guarded .machine) (r .end)
-      ∙ ap (guardClosed (e .stop)) (plain-steps (r .count) g ∙ ap (λ (j : ℕ). instructions j (g .machine)) z)
+      ∙ ap (closed (stopNumber (e .stop))) (plain-steps (r .count) g ∙ ap (λ (j : ℕ). instructions j (g .machine)) z)
 
 -- the stops for a hidden word and a hidden jump
 abbrev pub hides : GuardedStop → Bool
@@ -102,7 +102,7 @@ hides Budget = false
 hides HiddenWord = true
 hides HiddenJump = true
 
-left-open : (c : GuardedStop) (m : Machine) → hides c ≡ true → guardClosed c m ≡ m
+left-open : (c : GuardedStop) (m : Machine) → hides c ≡ true → closed (stopNumber c) m ≡ m
 left-open Halted m h = refl
 left-open Breakpoint m h = refl
 left-open Faulted m h = refl
@@ -116,36 +116,35 @@ plain-hidden hid b n g h = plain-end hid b n g ∙ left-open (guardedRun hid b 0
 
 -- ---- beside `run`
 
--- both go on; both stop, and leave the machine alike; or the guarded run stops for something hidden
--- two stops with one number, neither a refusal, that leave the same machine
+-- two stops with one number, neither a refusal: they leave the same machine
 record Alike (c : GuardedStop) (d : RunStop) : Type 0 where
-  number : stopNumber c ≡ numberIn (told d)
-  served : refusalIn (told d) ≡ 0
-  leaves : (m : Machine) → guardClosed c m ≡ closed d m
+  number : stopNumber c ≡ runNumber d
+  unrefused : refusalIn (runCode d) ≡ 0
 
+-- both go on; both stop, and leave the machine alike; or the guarded run stops for something hidden
 data Turn (v : Verdict GuardedStop) (u : Verdict RunStop) : Type 0 where
   on : v ≡ go → u ≡ go → Turn v u
   off : (c : GuardedStop) (d : RunStop) → v ≡ stop c → u ≡ stop d → Alike c d → Turn v u
   hidden : (c : GuardedStop) → v ≡ stop c → hides c ≡ true → Turn v u
 
 halts : (f : Fault) → Alike (haltedStop f) (haltStop f)
-halts Healthy = record { number = refl; served = refl; leaves = λ m. refl }
-halts (UnknownInstruction w a) = record { number = refl; served = refl; leaves = λ m. refl }
-halts (StepBudgetExhausted w a) = record { number = refl; served = refl; leaves = λ m. refl }
+halts Healthy = record { number = refl; unrefused = refl }
+halts (UnknownInstruction w a) = record { number = refl; unrefused = refl }
+halts (StepBudgetExhausted w a) = record { number = refl; unrefused = refl }
 
 -- by the tests; no counter is near its end, or it is not looked at
 beside : (h b z w j o : Bool) (s : State) → (z ≡ false → o ≡ false) → Turn (guardIf h b z w j (s .fault)) (verdictIf h b z o s)
 beside true b z w j o s q = off (haltedStop (s .fault)) (haltStop (s .fault)) refl refl (halts (s .fault))
-beside false true z w j o s q = off Breakpoint (RunBreakpoint (s .control .pc)) refl refl (record { number = refl; served = refl; leaves = λ m. refl })
-beside false false true w j o s q = off Budget RunBudget refl refl (record { number = refl; served = refl; leaves = λ m. refl })
+beside false true z w j o s q = off Breakpoint (RunBreakpoint (s .control .pc)) refl refl (record { number = refl; unrefused = refl })
+beside false false true w j o s q = off Budget RunBudget refl refl (record { number = refl; unrefused = refl })
 beside false false false true j o s q = hidden HiddenWord refl refl
 beside false false false false true o s q = hidden HiddenJump refl refl
 beside false false false false false o s q = on refl (ap (λ (x : Bool). cond x (stop (Refused 9)) go) (q refl))
 
 -- two ends that show the same: the stop's number, which is no refusal, the machine, and how many instructions were begun
 pub record Same (e : GuardedEnd) (r : RunEnd) : Type 0 where
-  pub stop : stopNumber (e .stop) ≡ numberIn (told (r .stop))
-  pub served : refusalIn (told (r .stop)) ≡ 0
+  pub stop : stopNumber (e .stop) ≡ runNumber (r .stop)
+  pub unrefused : refusalIn (runCode (r .stop)) ≡ 0
   pub machine : e .guarded .machine ≡ r .machine
   pub executed : e .executed ≡ r .executed
 
@@ -167,9 +166,9 @@ module _ (hid : ℕ → Bool) (b : List ℕ) where
       let x = guard-stops hid b k n g c p in
       let y = run-stops b k n (g .machine) d q in
       record {
-        stop = ap (λ (e : GuardedEnd). stopNumber (e .stop)) x ∙ r .number ∙ sym (ap (λ (e : RunEnd). numberIn (told (e .stop))) y);
-        served = ap (λ (e : RunEnd). refusalIn (told (e .stop))) y ∙ r .served;
-        machine = ap (λ (e : GuardedEnd). e .guarded .machine) x ∙ r .leaves (g .machine) ∙ sym (ap (λ (e : RunEnd). e .machine) y);
+        stop = ap (λ (e : GuardedEnd). stopNumber (e .stop)) x ∙ r .number ∙ sym (ap (λ (e : RunEnd). runNumber (e .stop)) y);
+        unrefused = ap (λ (e : RunEnd). refusalIn (runCode (e .stop))) y ∙ r .unrefused;
+        machine = ap (λ (e : GuardedEnd). e .guarded .machine) x ∙ ap (λ (j : ℕ). closed j (g .machine)) (r .number) ∙ sym (ap (λ (e : RunEnd). e .machine) y);
         executed = ap (λ (e : GuardedEnd). e .executed) x ∙ sym (ap (λ (e : RunEnd). e .executed) y);
       }
 

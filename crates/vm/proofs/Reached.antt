@@ -8,6 +8,7 @@ use mathlib.Core.List.{List, []}
 use borrow.Author.Tests.{leb-true}
 use lib.Dec.{eqb, leb}
 use lib.ListN.{length}
+use Rattle.isa.specs.Sizes.{memoryWords}
 use Rattle.control.specs.Lawful.{lawful}
 use Rattle.vm.specs.declared.machine.Machine.{Machine as Code}
 use Rattle.vm.specs.Refusal.{partsOk, refusal}
@@ -18,29 +19,29 @@ use Rattle.vm.proofs.Starts.{size-few, new-ok}
 use Rattle.vm.proofs.Histories.{saved-lasts, undone-lasts}
 
 -- what a call answers where the machine is one
-served : (m new : Code) → isMachine m ≡ true → serve (refusalOf m) new m .machine ≡ new
+serve-new : (m new : Code) → isMachine m ≡ true → serve (refusalOf m) new m .machine ≡ new
 unfolding serve refusal
-served m new e = ap (λ (b : Bool). cond (eqb (cond b 0 8) 0) new m) e
+serve-new m new e = ap (λ (b : Bool). cond (eqb (cond b 0 8) 0) new m) e
 
-size : (m : Code) → isMachine m ≡ true → m .«image_len» ≤ 256
+size : (m : Code) → isMachine m ≡ true → m .«image_len» ≤ memoryWords
 unfolding partsOk
-size m e = leb-true (m .«image_len») 256 (both (leb (m .«image_len») 256) _ (both (lawful (m .state .control)) _ e .1) .0)
+size m e = leb-true (m .«image_len») memoryWords (both (leb (m .«image_len») memoryWords) _ (both (lawful (m .state .control)) _ e .1) .0)
 
 pub loaded-lasts : (image : List ℕ) (m : Code) → isMachine m ≡ true → isMachine (loaded image m .machine) ≡ true
 unfolding loaded
-loaded-lasts image m e = rw (served m _ e) (new-ok (imageWords image) _ (m .«history_len») (size-few (length image)))
+loaded-lasts image m e = rw (serve-new m _ e) (new-ok (imageWords image) _ (m .«history_len») (size-few (length image)))
 
 pub reset-lasts : (m : Code) → isMachine m ≡ true → isMachine (reset m .machine) ≡ true
 unfolding reset
-reset-lasts m e = rw (served m _ e) (new-ok (m .image) (m .«image_len») (m .«history_len») (size m e))
+reset-lasts m e = rw (serve-new m _ e) (new-ok (m .image) (m .«image_len») (m .«history_len») (size m e))
 
 pub clear-lasts : (m : Code) → isMachine m ≡ true → isMachine (clear m .machine) ≡ true
 unfolding clear
-clear-lasts m e = rw (served m _ e) (new-ok (imageWords []) 0 0 (omega arith))
+clear-lasts m e = rw (serve-new m _ e) (new-ok (imageWords []) 0 0 (omega arith))
 
 pub clear-history-lasts : (m : Code) → isMachine m ≡ true → isMachine (clearHistory m .machine) ≡ true
 unfolding clearHistory
-clear-history-lasts m e = rw (served m _ e) e
+clear-history-lasts m e = rw (serve-new m _ e) e
 
 -- by which calls a machine is reached, with any store; the image's array has 256 words, as its type tells; `micro_step`, `step_instruction`, `run`, `direct_instruction` and `direct_run` promise `lasting`, and the readings leave the machine as it is
 pub data Reached : Code → Type 0 where
@@ -50,7 +51,7 @@ pub data Reached : Code → Type 0 where
   cleared : (m : Code) → Reached m → Reached (clear m .machine)
   forgotten : (m : Code) → Reached m → Reached (clearHistory m .machine)
   kept : (n : ℕ) (m : Code) → Reached m → Reached (saved n m .machine)
-  undid : (d : List ℕ) (m : Code) → length (m .image) ≡ 256 → Reached m → Reached (undone d m .machine)
+  undid : (d : List ℕ) (m : Code) → length (m .image) ≡ memoryWords → Reached m → Reached (undone d m .machine)
   moved : (m n : Code) → Reached m → (isMachine m ≡ true → isMachine n ≡ true) → Reached n
 
 pub never-refused : (m : Code) → Reached m → isMachine m ≡ true

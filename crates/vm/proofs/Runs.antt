@@ -3,7 +3,7 @@
 use Prim.Native.Nat.{ℕ, zero, suc, _+_, _-_}
 use native.Mathlib.Omega.{arith}
 use mathlib.Core.Path.{_≡_, refl, ap, _∙_}
-use mathlib.Core.Bool.{Bool, true, false, _&&_}
+use mathlib.Core.Bool.{Bool, true, false, cond, _&&_}
 use mathlib.Core.List.{List}
 use borrow.Author.Tests.{eqb-false}
 use lib.Dec.{eqb, leb}
@@ -12,12 +12,13 @@ use Rattle.control.specs.declared.control.State.{State}
 use Rattle.control.specs.Count.{overCounted}
 use Rattle.control.specs.Lawful.{lawful}
 use Rattle.guard.specs.declared.stops.RunStop.{RunStop}
-use Rattle.guard.specs.declared.stops.RunStop.the-variants.{Halted, Breakpoint, Fault as Faulted, Budget, AlreadyHalted, Refused}
+use Rattle.guard.specs.declared.stops.RunStop.the-variants.{Budget}
 use Rattle.guard.specs.Stops.{Verdict, go, stop, verdictIf, reached, after}
 use Rattle.vm.specs.Machine.{Machine}
 use Rattle.vm.specs.Instruction.{stepInstruction}
-use Rattle.vm.specs.Run.{verdict, closed, runEnd, spentControl, run}
-use Rattle.vm.specs.View.{Parts, parts, view, Fit, spentCore, stoppedParts}
+use Rattle.vm.specs.Run.{verdict, runEnd, spentControl, spentState, run}
+use Rattle.vm.specs.View.{Parts}
+use Rattle.vm.specs.Forms.{Fit, closedParts}
 
 -- ---- a run by its verdicts: the law of `run` and of the guarded run (`Guards`)
 
@@ -63,23 +64,11 @@ spent-lawful : (c : Control) → lawful c ≡ true → lawful (spentControl c) �
 unfolding lawful
 spent-lawful c e = halted-ok (leb (c .tick) 6) _ e
 
--- ---- the parts after a stop
+-- ---- the parts after a stop: the machine that they make is the closed one by computation
 
-pub stopped-view : (c : RunStop) (q : Parts) → view (stoppedParts c q) ≡ closed c (view q)
-stopped-view Halted q = refl
-stopped-view (Breakpoint a) q = refl
-stopped-view Faulted q = refl
-stopped-view Budget q = refl
-stopped-view AlreadyHalted q = refl
-stopped-view (Refused n) q = refl
+closed-lawful : (spent : Bool) (s : State) → lawful (s .control) ≡ true → lawful (cond spent (spentState s) s .control) ≡ true
+closed-lawful true s e = spent-lawful (s .control) e
+closed-lawful false s e = e
 
-pub spent-fit : (q : Parts) → Fit q → Fit (parts (spentCore (q .core)) (q .memory) (q .registers) (q .touched) (q .columns) (q .numbers) (q .lengths))
-spent-fit q f = record { control = spent-lawful (q .core .state .control) (f .control); touched = f .touched; trace = f .trace }
-
-pub stopped-fit : (c : RunStop) (q : Parts) → Fit q → Fit (stoppedParts c q)
-stopped-fit Halted q f = f
-stopped-fit (Breakpoint a) q f = f
-stopped-fit Faulted q f = f
-stopped-fit Budget q f = spent-fit q f
-stopped-fit AlreadyHalted q f = f
-stopped-fit (Refused n) q f = f
+pub closed-fit : (n : ℕ) (q : Parts) → Fit q → Fit (closedParts n q)
+closed-fit n q f = record { control = closed-lawful (eqb n 3) (q .core .state) (f .control); touched = f .touched; trace = f .trace }

@@ -3,16 +3,16 @@
 use Prim.Native.Nat.{ℕ, zero, suc, _+_, _-_, _*_, _≤_, _<_}
 use native.Mathlib.Omega.{arith}
 use mathlib.Core.Path.{_≡_, refl, ap, sym, subst, _∙_}
-use mathlib.Core.Bool.{Bool, true, false, cond}
-use mathlib.Core.List.{List, [], _∷_, _++_}
+use mathlib.Core.Bool.{Bool, false}
+use mathlib.Core.List.{List}
 use borrow.Author.Tests.{eqb-false}
 use lib.Dec.{eqb}
-use lib.ListN.{length, getD, length-append}
-use Rattle.isa.specs.Word.{decodeWord, digitX}
+use lib.ListN.{length, length-append}
+use Rattle.isa.specs.Word.{decodeWord}
 use Rattle.plan.specs.Plan.{executeTicks}
 use Rattle.control.specs.Count.{overCounted}
 use Rattle.trace.specs.declared.records.TraceRecord.{TraceRecord}
-use Rattle.guard.specs.Stops.{Verdict, go, reached, verdictIf}
+use Rattle.guard.specs.Stops.{go, reached, verdictIf}
 use Rattle.vm.specs.Machine.{Machine}
 use Rattle.vm.specs.Instruction.{stepInstruction}
 use Rattle.vm.specs.Run.{verdict, run}

@@ -5,12 +5,13 @@ use native.Mathlib.Omega.{arith}
 use mathlib.Core.Path.{_≡_, _∙_}
 use mathlib.Core.Bool.{Bool, true, false, cond, not, _&&_}
 use mathlib.Core.List.{List}
-use lib.Dec.{leb, eqb, lit≤}
+use lib.Dec.{leb, lit≤}
 use lib.ListN.{length, length-map}
 use Rattle.isa.specs.declared.opcode.Opcode.the-variants.{LoadImmediate, LoadRegister, LoadMemory, StoreMemory, Add, Negate, ShiftRight, ShiftLeft, And, Or, Xor, Jump, Halt}
 use Rattle.isa.specs.declared.opcode.Decoded.{Decoded}
 use Rattle.isa.specs.declared.opcode.Decoded.the-variants.{Known, Unknown}
 use Rattle.isa.specs.declared.text.Text.{Text}
+use Rattle.isa.specs.Sizes.{memoryWords}
 use Rattle.isa.specs.Text.{ascii, text}
 use Rattle.isa.proofs.Texts.{length-padded}
 use Rattle.isa.specs.Word.{decodeWord}
@@ -21,14 +22,16 @@ use Rattle.control.specs.declared.control.State.{State}
 use Rattle.control.specs.declared.control.Operands.{Operands}
 use Rattle.control.specs.declared.control.Tick.{Tick}
 use Rattle.control.specs.declared.counters.Counters.{Counters}
-use Rattle.tick.specs.Tick.{withControl, plain, nextPc, haltingTick, isHalt, toTick, decodeAs, decodeTick, executeTick, endedTick, laterTick, onward, tickOf}
+use Rattle.control.specs.Control.{withControl, toTick}
+use Rattle.tick.specs.Tick.{plain, nextPc, haltingTick, isHalt, decodeAs, decodeTick, executeTick, endedTick, laterTick, onward, tickOf}
 use Rattle.control.specs.Count.{countTick}
 use Rattle.trace.specs.declared.records.TraceRecord.{TraceRecord}
 use Rattle.trace.specs.Trace.{pushed, tickPhase}
-use Rattle.trace.specs.Cells.{registerOf, registersAfter, registersBy, memoryAfter}
+use Rattle.trace.specs.Cells.{registerOf, registersAfter, memoryAfter}
+use Rattle.trace.specs.Forms.{registersBy}
 use Rattle.trace.proofs.Writes.{one-of-sixteen}
 use Rattle.trace.specs.Touched.{touchedBy}
-use Rattle.trace.proofs.Places.{Addressed}
+use Rattle.trace.specs.Touched.{Addressed}
 use Rattle.vm.specs.Machine.{Machine, operandsOf, nextTextOn, nextText, afterTick, microStep, doneBy, nextDone}
 
 -- ---- a register that a tick writes is one of sixteen
@@ -85,9 +88,9 @@ named (suc (suc zero)) s o = omega arith
 named (suc (suc (suc zero))) s o = decode-named (decodeWord (s .control .ir)) s
 named (suc (suc (suc (suc n)))) s o = onward-named n (executeTick (decodeWord (s .control .ir)) n s o) (execute-named (decodeWord (s .control .ir)) n s o)
 
--- ---- the address of a bus write is MAR, a byte
+-- ---- the address of a bus write is MAR
 
-module _ (s : State) (o : Operands) (byte : s .control .mar < 256) where
+module _ (s : State) (o : Operands) (byte : s .control .mar < memoryWords) where
   execute-sends : (d : Decoded) (n : ℕ) → Addressed (executeTick d n s o .bus)
   unfolding executeTick
   execute-sends (Known LoadImmediate) n = tt

@@ -1,14 +1,17 @@
--- The instructions of a run that its end does not show (02, Change 11): what the code's parts keep where these are made without their records.
+-- What the code keeps where the instructions of a run that its end does not show (02, Change 11) are made without their records. A reader need not believe
+-- it: as `Forms`, it is for helper functions.
 -- Assumes nothing.
 use Prim.Native.Nat.{ℕ, _+_, _-_, _≤_}
 use mathlib.Core.Path.{_≡_}
 use mathlib.Core.List.{List}
+use Rattle.control.specs.Control.{withPc, withControl, withAlu}
 use Rattle.marks.specs.Marks.{marked}
 use Rattle.direct.specs.declared.light.Lane.{Lane}
-use Rattle.vm.specs.declared.transfer.Core.{Core}
-use Rattle.vm.specs.View.{parts, view, Fit}
+use Rattle.vm.specs.declared.parts.Core.{Core}
+use Rattle.vm.specs.View.{parts, view}
 use Rattle.vm.specs.Run.{run}
-use Rattle.vm.specs.Guard.{guardedOn, guardedRun}
+use Rattle.vm.specs.Guard.{guardedRun}
+use Rattle.vm.specs.Forms.{Fit, guardedOn}
 
 -- the part of the small part that an instruction reads and does not set anew
 abbrev pub laneOf : Core → Lane
@@ -17,31 +20,20 @@ laneOf c = record { counters = c .counters; «touched_len» = c .«touched_len»
 -- the small part with that part anew
 abbrev pub coreWith : Core → Lane → Core
 coreWith c s = record {
-  state = record {
-    control = record {
-      pc = s .pc;
-      ir = c .state .control .ir;
-      mar = c .state .control .mar;
-      mdr = c .state .control .mdr;
-      «instruction_address» = c .state .control .«instruction_address»;
-      tick = c .state .control .tick;
-      «execute_ticks» = c .state .control .«execute_ticks»;
-      halted = c .state .control .halted;
-    };
-    fault = c .state .fault;
-    «last_transfer» = c .state .«last_transfer»;
-    «last_alu» = s .alu;
-  };
+  state = withAlu (s .alu) (withControl (withPc (s .pc) (c .state .control)) (c .state));
   counters = s .counters;
   «touched_len» = s .«touched_len»;
   «trace_start» = c .«trace_start»;
   «trace_len» = c .«trace_len»;
 }
 
--- what is left of a run, and of a guarded run, is the whole, whatever the trace and MDR's mark: breakpoints, instructions begun, budget, the parts and marks at first, and those after j instructions
+-- what is left of a run, and of a guarded run, is the whole, whatever the trace and MDR's mark: breakpoints, instructions begun, budget, the parts and
+-- marks at first, and those after j instructions
 pub record Ahead (b : List ℕ) (k L : ℕ) (from : Core) (m r t x y : List ℕ) (j : ℕ) (core : Core) (m' r' t' x' y' : List ℕ) : Type 0 where
-  pub runs : (c i l : List ℕ) → Fit (parts from m r t c i l) → run b k (L - k) (view (parts from m r t c i l)) ≡ run b (k + j) (L - (k + j)) (view (parts core m' r' t' c i l))
+  pub runs : (c i l : List ℕ) → Fit (parts from m r t c i l)
+      → run b k (L - k) (view (parts from m r t c i l)) ≡ run b (k + j) (L - (k + j)) (view (parts core m' r' t' c i l))
   pub guards : (c i l : List ℕ) (d : ℕ) → Fit (parts from m r t c i l)
-      → guardedRun marked b k (L - k) (guardedOn (parts from m r t c i l) x y d) ≡ guardedRun marked b (k + j) (L - (k + j)) (guardedOn (parts core m' r' t' c i l) x' y' d)
+      → guardedRun marked b k (L - k) (guardedOn (parts from m r t c i l) x y d)
+      ≡ guardedRun marked b (k + j) (L - (k + j)) (guardedOn (parts core m' r' t' c i l) x' y' d)
   pub fits : (c i l : List ℕ) → Fit (parts from m r t c i l) → Fit (parts core m' r' t' c i l)
   pub within : k + j ≤ L

@@ -1,4 +1,5 @@
--- The direct engine (02, Change 11): a whole instruction as one change of state, without phases, and runs of such. What a word does is in `direct`, in `Work` and `Light`.
+-- The direct engine (02, Change 11): a whole instruction as one change of state, without phases, and runs of such. What a word does is in `direct`,
+-- in `Work` and `Light`.
 -- Assumes nothing.
 use Prim.Native.Nat.{ℕ, zero, suc, _+_}
 use mathlib.Core.Bool.{not}
@@ -15,7 +16,7 @@ use Rattle.trace.specs.Touched.{touchedBy}
 use Rattle.direct.specs.declared.work.Work.{Work}
 use Rattle.direct.specs.Work.{counts, stateBy, countWhole}
 use Rattle.direct.specs.Light.{Light, wordAt, workOf, recordsOf}
-use Rattle.vm.specs.declared.transfer.Done.{Done}
+use Rattle.vm.specs.declared.parts.Done.{Done}
 use Rattle.vm.specs.Machine.{Machine}
 use Rattle.vm.specs.Run.{RunEnd, verdict, runEnd}
 

@@ -1,4 +1,5 @@
--- Worked examples (01, section 9, 1* to 13*). Each row is a machine and the number of ticks that it makes, or the input of a guarded run, and what is then seen. One theorem says that the definitions give each row.
+-- Worked examples (01, section 9, 1* to 13*). Each row has the example's number, a machine and the number of ticks that it makes, or the input of a
+-- guarded run, and what is then seen. One theorem says that the definitions give each row.
 -- Assumes nothing.
 use Prim.Native.Nat.{ℕ, zero, suc, _-_}
 use Prim.Native.String.{String}
@@ -6,6 +7,7 @@ use mathlib.Core.Bool.{Bool, true, false}
 use mathlib.Core.Path.{_≡_, refl}
 use mathlib.Core.List.{List, [], _∷_, _++_, map}
 use lib.ListN.{length, getD, replicate}
+use Rattle.isa.specs.Sizes.{memoryWords, registerCount}
 use Rattle.isa.specs.declared.text.Text.{Text}
 use Rattle.isa.specs.Text.{ascii, text}
 use Rattle.isa.specs.Opcode.{digits, decodeNibble}
@@ -14,6 +16,7 @@ use Rattle.plan.specs.Plan.{fetchText, loadText, executeText, tickTemplate, tic
 use Rattle.control.specs.declared.control.Fault.{Fault}
 use Rattle.control.specs.declared.control.Fault.the-variants.{Healthy, UnknownInstruction}
 use Rattle.control.specs.declared.control.State.{State}
+use Rattle.control.specs.Control.{withPc, withControl}
 use Rattle.control.specs.Count.{countTick}
 use Rattle.tick.specs.Tick.{decodeTick, right16, left16, executeTick, tickOf}
 use Rattle.encoding.specs.Bytes.{member}
@@ -21,7 +24,7 @@ use Rattle.marks.specs.Marks.{marked, instructionMarks}
 use Rattle.guard.specs.Stops.{stopNumber}
 use Rattle.guard.specs.Input.{Input}
 use Rattle.trace.specs.declared.records.TraceRecord.{TraceRecord}
-use Rattle.trace.specs.Trace.{pushed, slots, liveTrace, newest}
+use Rattle.trace.specs.Trace.{pushed, slots, liveTrace, takeLast}
 use Rattle.vm.specs.Machine.{Machine, nextText, microStep}
 use Rattle.vm.specs.Instruction.{ticked, steps, stepInstruction}
 use Rattle.trace.specs.Touched.{noted}
@@ -30,20 +33,20 @@ use Rattle.vm.specs.Guard.{guardedStart, guardedRun, guardedOf}
 
 -- a state that goes on at an address
 abbrev pub goingOn : ℕ → State → State
-goingOn p s =
-    let c = s .control in
-    record {
-      control = record { pc = p; ir = c .ir; mar = c .mar; mdr = c .mdr; «instruction_address» = c .«instruction_address»; tick = c .tick; «execute_ticks» = c .«execute_ticks»; halted = c .halted };
-      fault = s .fault;
-      «last_transfer» = s .«last_transfer»;
-      «last_alu» = s .«last_alu»;
-    }
+goingOn p s = withControl (withPc p (s .control)) s
 
 -- a new machine with an image, with words in its first registers, at an address
 unfoldable pub machineWith : List ℕ → List ℕ → ℕ → Machine
 machineWith image words p =
     let m = viewOf (restarted (imageWords image) (length image) 0) in
-    record { state = goingOn p (m .state); counters = m .counters; memory = m .memory; registers = words ++ replicate (16 - length words) 0; trace = m .trace; touched = m .touched }
+    record {
+      state = goingOn p (m .state);
+      counters = m .counters;
+      memory = m .memory;
+      registers = words ++ replicate (registerCount - length words) 0;
+      trace = m .trace;
+      touched = m .touched;
+    }
 
 unfoldable pub microSteps : ℕ → Machine → Machine
 microSteps zero m = m
@@ -54,7 +57,8 @@ pub data Given : Type 0 where
   ticks : List ℕ → List ℕ → ℕ → ℕ → Given
   guarded : Input → Given
 
--- the number of the stop and the marks of R1 and of words 11 and 12, of a guarded run; the newest text of the trace, R1, PC, the four counts, halted, the fault
+-- the number of the stop and the marks of R1 and of words 11 and 12, of a guarded run; the newest text of the trace, R1, PC, the four counts, halted,
+-- the fault
 pub record Seen : Type 0 where
   pub stop : List ℕ
   pub marks : List ℕ
@@ -72,7 +76,7 @@ abbrev pub seenOf : List ℕ → List ℕ → Machine → Seen
 seenOf s k m = record {
   stop = s;
   marks = k;
-  texts = map (λ (r : TraceRecord). r .text) (newest 1 (m .trace));
+  texts = map (λ (r : TraceRecord). r .text) (takeLast 1 (m .trace));
   r1 = getD (m .registers) 1 0;
   pc = m .state .control .pc;
   instructions = m .counters .instructions;
@@ -91,50 +95,82 @@ seen (guarded i) =
     seenOf (stopNumber (e .stop) ∷ []) (getD (k .registers) 1 0 ∷ getD (k .memory) 0x11 0 ∷ getD (k .memory) 0x12 0 ∷ []) (e .guarded .machine)
 
 pub record Row : Type 0 where
+  pub number : ℕ
   pub given : Given
   pub answer : Seen
 
--- image, registers, PC, ticks; text, R1, PC, instructions, halted, fault. All of them fetch once and write nothing
-abbrev pub row : List ℕ → List ℕ → ℕ → ℕ → String → ℕ → ℕ → ℕ → Bool → Fault → Row
-row image words p n x v q k h f = record {
+-- the example; image, registers, PC, ticks; text, R1, PC, instructions, halted, fault. All of them fetch once and write nothing
+abbrev pub row : ℕ → List ℕ → List ℕ → ℕ → ℕ → String → ℕ → ℕ → ℕ → Bool → Fault → Row
+row e image words p n x v q k h f = record {
+  number = e;
   given = ticks image words p n;
-  answer = record { stop = []; marks = []; texts = text (ascii x) ∷ []; r1 = v; pc = q; instructions = k; operations = n; reads = 1; writes = 0; halted = h; fault = f };
+  answer = record {
+    stop = [];
+    marks = [];
+    texts = text (ascii x) ∷ [];
+    r1 = v;
+    pc = q;
+    instructions = k;
+    operations = n;
+    reads = 1;
+    writes = 0;
+    halted = h;
+    fault = f;
+  };
 }
 
 -- a program, and in word 10, which is marked, a value
 abbrev pub hiding : List ℕ → ℕ → Input
 hiding program value = record {
-  image = program ++ (replicate (16 - length program) 0 ++ (value ∷ []));
-  marks = replicate 16 0 ++ (1 ∷ replicate 239 0);
+  image = program ++ (replicate (0x10 - length program) 0 ++ (value ∷ []));
+  marks = replicate 0x10 0 ++ (1 ∷ replicate (memoryWords - 0x11) 0);
   budget = 9;
   breaks = [];
 }
 
--- the input of a guarded run; the stop, the marks of R1 and of words 11 and 12, text, R1, PC, instructions, ticks, reads, writes, halted, fault
-abbrev pub guardedRow : Input → ℕ → List ℕ → String → ℕ → ℕ → ℕ → ℕ → ℕ → ℕ → Bool → Fault → Row
-guardedRow i s g x v q k n a b h f = record {
+-- the example; the input of a guarded run; the stop, the marks of R1 and of words 11 and 12, text, R1, PC, instructions, ticks, reads, writes, halted, fault
+abbrev pub guardedRow : ℕ → Input → ℕ → List ℕ → String → ℕ → ℕ → ℕ → ℕ → ℕ → ℕ → Bool → Fault → Row
+guardedRow e i s g x v q k n a b h f = record {
+  number = e;
   given = guarded i;
-  answer = record { stop = s ∷ []; marks = g; texts = text (ascii x) ∷ []; r1 = v; pc = q; instructions = k; operations = n; reads = a; writes = b; halted = h; fault = f };
+  answer = record {
+    stop = s ∷ [];
+    marks = g;
+    texts = text (ascii x) ∷ [];
+    r1 = v;
+    pc = q;
+    instructions = k;
+    operations = n;
+    reads = a;
+    writes = b;
+    halted = h;
+    fault = f;
+  };
 }
 
+-- 10*: a breakpoint before the first instruction
+abbrev pub breaking : Input
+breaking = record { image = 0xE000 ∷ []; marks = replicate memoryWords 0; budget = 1; breaks = 0 ∷ [] }
+
+-- 2* has three rows; 9* has its jump untaken, and then taken
 unfoldable pub rows : List Row
 rows =
-    row (0x6123 ∷ []) (0 ∷ 0 ∷ 0xFFFF ∷ 1 ∷ []) 0 5 "R2 + R3 -> R1" 0 1 1 false Healthy
-    ∷ row (0x7010 ∷ []) (0 ∷ 1 ∷ []) 0 5 "~R1 + 1 -> R1" 0xFFFF 1 1 false Healthy
-    ∷ row (0x7010 ∷ []) (0 ∷ 0x8000 ∷ []) 0 5 "~R1 + 1 -> R1" 0x8000 1 1 false Healthy
-    ∷ row (0x7010 ∷ []) (0 ∷ 0 ∷ []) 0 5 "~R1 + 1 -> R1" 0 1 1 false Healthy
-    ∷ row (0x810F ∷ []) (0 ∷ 0xFFFF ∷ []) 0 5 "R1 >> 0F -> R1" 1 1 1 false Healthy
-    ∷ row (0x8110 ∷ []) (0 ∷ 0xFFFF ∷ []) 0 5 "R1 >> 10 -> R1" 0 1 1 false Healthy
-    ∷ row (0x910F ∷ []) (0 ∷ 0xFFFF ∷ []) 0 5 "R1 << 0F -> R1" 0x8000 1 1 false Healthy
-    ∷ row (0xE000 ∷ []) [] 0 4 "PC + 1 -> PC" 0 1 1 true Healthy
-    ∷ row (0x5000 ∷ []) [] 0 4 "PC + 1 -> PC" 0 1 0 true (UnknownInstruction 0x5000 0)
-    ∷ row (replicate 255 0 ++ (0x1105 ∷ [])) [] 255 4 "PC + 1 -> PC" 0 0 0 false Healthy
-    ∷ row (0xD120 ∷ []) (0 ∷ 1 ∷ []) 0 5 "if R1 = R0: 20 -> PC (not taken)" 1 1 1 false Healthy
-    ∷ row (0xD120 ∷ []) (7 ∷ 7 ∷ []) 0 5 "if R1 = R0: 20 -> PC" 7 0x20 1 false Healthy
-    ∷ guardedRow (record { image = 0xE000 ∷ []; marks = replicate 256 0; budget = 1; breaks = 0 ∷ [] }) 0 (0 ∷ 0 ∷ 0 ∷ []) "PC + 1 -> PC" 0 1 1 4 1 0 true Healthy
-    ∷ guardedRow (hiding (0x3110 ∷ 0x4111 ∷ 0x1105 ∷ 0x4112 ∷ 0xE000 ∷ []) 0x1234) 0 (0 ∷ 1 ∷ 0 ∷ []) "PC + 1 -> PC" 5 5 5 30 6 2 true Healthy
-    ∷ guardedRow (hiding (0x3110 ∷ 0xD105 ∷ []) 0x1234) 5 (1 ∷ 0 ∷ 0 ∷ []) "MDR -> R1" 0x1234 1 1 7 2 0 false Healthy
-    ∷ guardedRow (hiding (0x3010 ∷ 0xD005 ∷ []) 0x1234) 2 (0 ∷ 0 ∷ 0 ∷ []) "PC + 1 -> PC" 0 6 2 16 4 0 true (UnknownInstruction 0 5)
+    row 1 (0x6123 ∷ []) (0 ∷ 0 ∷ 0xFFFF ∷ 1 ∷ []) 0 5 "R2 + R3 -> R1" 0 1 1 false Healthy
+    ∷ row 2 (0x7010 ∷ []) (0 ∷ 1 ∷ []) 0 5 "~R1 + 1 -> R1" 0xFFFF 1 1 false Healthy
+    ∷ row 2 (0x7010 ∷ []) (0 ∷ 0x8000 ∷ []) 0 5 "~R1 + 1 -> R1" 0x8000 1 1 false Healthy
+    ∷ row 2 (0x7010 ∷ []) (0 ∷ 0 ∷ []) 0 5 "~R1 + 1 -> R1" 0 1 1 false Healthy
+    ∷ row 3 (0x810F ∷ []) (0 ∷ 0xFFFF ∷ []) 0 5 "R1 >> 0F -> R1" 1 1 1 false Healthy
+    ∷ row 4 (0x8110 ∷ []) (0 ∷ 0xFFFF ∷ []) 0 5 "R1 >> 10 -> R1" 0 1 1 false Healthy
+    ∷ row 5 (0x910F ∷ []) (0 ∷ 0xFFFF ∷ []) 0 5 "R1 << 0F -> R1" 0x8000 1 1 false Healthy
+    ∷ row 6 (0xE000 ∷ []) [] 0 4 "PC + 1 -> PC" 0 1 1 true Healthy
+    ∷ row 7 (0x5000 ∷ []) [] 0 4 "PC + 1 -> PC" 0 1 0 true (UnknownInstruction 0x5000 0)
+    ∷ row 8 (replicate 255 0 ++ (0x1105 ∷ [])) [] 255 4 "PC + 1 -> PC" 0 0 0 false Healthy
+    ∷ row 9 (0xD120 ∷ []) (0 ∷ 1 ∷ []) 0 5 "if R1 = R0: 20 -> PC (not taken)" 1 1 1 false Healthy
+    ∷ row 9 (0xD120 ∷ []) (7 ∷ 7 ∷ []) 0 5 "if R1 = R0: 20 -> PC" 7 0x20 1 false Healthy
+    ∷ guardedRow 10 breaking 0 (0 ∷ 0 ∷ 0 ∷ []) "PC + 1 -> PC" 0 1 1 4 1 0 true Healthy
+    ∷ guardedRow 11 (hiding (0x3110 ∷ 0x4111 ∷ 0x1105 ∷ 0x4112 ∷ 0xE000 ∷ []) 0x1234) 0 (0 ∷ 1 ∷ 0 ∷ []) "PC + 1 -> PC" 5 5 5 30 6 2 true Healthy
+    ∷ guardedRow 12 (hiding (0x3110 ∷ 0xD105 ∷ []) 0x1234) 5 (1 ∷ 0 ∷ 0 ∷ []) "MDR -> R1" 0x1234 1 1 7 2 0 false Healthy
+    ∷ guardedRow 13 (hiding (0x3010 ∷ 0xD005 ∷ []) 0x1234) 2 (0 ∷ 0 ∷ 0 ∷ []) "PC + 1 -> PC" 0 6 2 16 4 0 true (UnknownInstruction 0 5)
     ∷ []
 
 pub rows-hold : map (λ (r : Row). seen (r .given)) rows ≡ map (λ (r : Row). r .answer) rows

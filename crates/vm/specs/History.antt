@@ -1,4 +1,5 @@
--- The history (01, sections 1 and 7; vm.rs, `push_history`, `undo`, `snapshot` and `restore`): the machine keeps the number of records, a lent store the records.
+-- The history (01, sections 1 and 7; vm.rs, `push_history`, `undo`, `snapshot` and `restore`): the machine keeps the number of records, a lent store the
+-- records.
 -- Assumes nothing.
 use Prim.Native.Nat.{ℕ, _-_}
 use mathlib.Core.Bool.{Bool, cond}

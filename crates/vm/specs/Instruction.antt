@@ -9,7 +9,7 @@ use Rattle.isa.specs.Text.{text}
 use Rattle.plan.specs.declared.plan.TransferPlan.{TransferPlan}
 use Rattle.control.specs.declared.control.BusTransfer.the-variants.{Idle}
 use Rattle.control.specs.declared.control.RegisterWrite.the-variants.{Unwritten}
-use Rattle.vm.specs.declared.transfer.Done.{Done}
+use Rattle.vm.specs.declared.parts.Done.{Done}
 use Rattle.vm.specs.Machine.{Machine, nextText, nextDone, microStep}
 
 -- a machine, how many ticks were made, and what the last one did

@@ -4,8 +4,12 @@ pub mod Run
 pub mod View
 pub mod Refusal
 pub mod Calls
+pub mod ReadCalls
+pub mod StepCalls
+pub mod RunCalls
 pub mod History
 pub mod Guard
 pub mod Examples
 pub mod Direct
+pub mod Forms
 pub mod Ahead

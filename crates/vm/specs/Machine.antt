@@ -1,7 +1,7 @@
 -- One tick of a running machine (01, section 3; vm.rs, `micro_step`): `tickOf` says what it does to the control unit, and what it sends to the arrays.
 -- Assumes nothing.
 use Prim.Native.Nat.{ℕ}
-use mathlib.Core.Bool.{cond, not, _&&_}
+use mathlib.Core.Bool.{not, _&&_}
 use mathlib.Core.List.{List}
 use lib.Dec.{eqb}
 use lib.ListN.{getD}
@@ -16,7 +16,7 @@ use Rattle.control.specs.declared.counters.Counters.{Counters}
 use Rattle.tick.specs.Tick.{tickOf}
 use Rattle.control.specs.Count.{countTick}
 use Rattle.trace.specs.declared.records.TraceRecord.{TraceRecord}
-use Rattle.vm.specs.declared.transfer.Done.{Done}
+use Rattle.vm.specs.declared.parts.Done.{Done}
 use Rattle.trace.specs.Trace.{pushed, tickPhase}
 use Rattle.trace.specs.Cells.{registersAfter, memoryAfter}
 use Rattle.trace.specs.Touched.{touchedBy}
@@ -55,7 +55,12 @@ afterTick m x t =
       counters = k;
       memory = memoryAfter (t .bus) (m .memory);
       registers = registersAfter (t .write) (m .registers);
-      trace = pushed (record { number = k .«micro_operations»; address = t .state .control .«instruction_address»; phase = tickPhase (m .state .control .tick); text = x }) (m .trace);
+      trace = pushed (record {
+        number = k .«micro_operations»;
+        address = t .state .control .«instruction_address»;
+        phase = tickPhase (m .state .control .tick);
+        text = x;
+      }) (m .trace);
       touched = touchedBy (t .bus) (m .touched);
     }
 

@@ -1,18 +1,16 @@
 -- What is refused of a state (01, section 1, numbers 8 and 9).
 -- Assumes nothing.
-use Prim.Native.Nat.{ℕ, _<_}
-use mathlib.Core.Path.{_≡_}
+use Prim.Native.Nat.{ℕ}
 use mathlib.Core.Bool.{Bool, cond, _&&_}
 use mathlib.Core.List.{List}
 use lib.Dec.{leb}
-use lib.ListN.{length, take, getD}
+use lib.ListN.{take}
 use Rattle.isa.specs.Sizes.{memoryWords}
 use Rattle.control.specs.Lawful.{lawful}
 use Rattle.control.specs.Count.{overCounted}
-use Rattle.vm.specs.declared.transfer.Core.{Core}
-use Rattle.trace.specs.Trace.{liveLengths, shortTexts, columnsLength, traceLimit}
+use Rattle.vm.specs.declared.parts.Core.{Core}
+use Rattle.trace.specs.Trace.{liveLengths, shortTexts, traceLimit}
 use Rattle.trace.specs.Touched.{distinct}
-use Rattle.vm.specs.View.{Parts}
 
 -- 8: the control unit; the image's length; the number of trace records and the lengths of their texts; the touched addresses, and none twice
 unfoldable pub partsOk : Core → ℕ → List ℕ → List ℕ → Bool
@@ -22,10 +20,6 @@ partsOk c n t l =
     && (leb (c .«trace_len») traceLimit
     && (shortTexts (liveLengths (c .«trace_start») (c .«trace_len») l)
     && (leb (c .«touched_len») memoryWords && distinct (take (c .«touched_len») t)))))
-
--- the same of the code's parts: the image's length, the parts
-abbrev pub sound : ℕ → Parts → Bool
-sound n q = partsOk (q .core) n (q .touched) (q .lengths)
 
 -- the refusal of a call on a machine, 0 where there is none: the parts, and the image's length
 unfoldable pub refusal : Core → ℕ → List ℕ → List ℕ → ℕ
@@ -37,15 +31,3 @@ stepRefusalIf ok halted far = cond ok (cond halted 0 (cond far 9 0)) 8
 
 unfoldable pub stepRefusal : Core → ℕ → List ℕ → List ℕ → ℕ
 stepRefusal c n t l = stepRefusalIf (partsOk c n t l) (c .state .control .halted) (overCounted (c .counters))
-
--- the same of the code's parts
-abbrev pub refusalOn : ℕ → Parts → ℕ
-refusalOn n q = stepRefusal (q .core) n (q .touched) (q .lengths)
-
--- how long the arrays are, which their types tell
-pub record Sizes (q : Parts) : Type 0 where
-  pub touched : length (q .touched) ≡ memoryWords
-  pub bytes : (i : ℕ) → getD (q .touched) i 0 < 256
-  pub columns : length (q .columns) ≡ columnsLength
-  pub numbers : length (q .numbers) ≡ traceLimit
-  pub lengths : length (q .lengths) ≡ traceLimit

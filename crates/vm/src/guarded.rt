@@ -4,19 +4,20 @@ ghost use mathlib.Core.Path.{_≡_};
 ghost use mathlib.Core.Bool.{true};
 ghost use Rattle.marks.specs.Marks.{marked};
 ghost use Rattle.guard.specs.Input.{inputFrom, inputRefusal};
-ghost use Rattle.vm.specs.View.{Fit, given, came, left};
-ghost use Rattle.vm.specs.Guard.{closedCore, guardedRun, guardedOn, endOn};
+ghost use Rattle.vm.specs.Guard.{guardedRun};
+ghost use Rattle.vm.specs.Forms.{Fit, given, came, left, guardedOn, endOn};
 ghost use Rattle.vm.specs.Guard.{guardedAnswerOf, servedAnswer, refusedRun, guardedAnswer};
 ghost use Rattle.vm.specs.Calls.{isMachine};
+use crate::engine::forward_parts;
+use crate::engine::next_parts;
 use crate::machine::Machine;
 use crate::machine::image_size;
 use crate::machine::image_words;
 use crate::machine::mark_words;
 use crate::machine::switched_on;
-use crate::run::exhausted;
-use crate::transfer::Core;
-use crate::whole::forward_parts;
-use crate::whole::next_parts;
+use crate::parts::Core;
+use crate::run::closed_core;
+use control::Address;
 use guard::Begun;
 use guard::GuardedStop;
 use guard::Verdict;
@@ -28,20 +29,6 @@ use marks::Marks;
 use marks::mark_instruction;
 use trace::COLUMNS_LENGTH;
 use trace::TRACE_LIMIT;
-
-// Of the stops only a spent budget changes the machine.
-fn closed_core(stop: GuardedStop, core: Core) -> Core
-    ensures { λ r. ⌜ r ≡ closedCore stop core ⌝ }
-{
-    match stop {
-        GuardedStop::Halted => core,
-        GuardedStop::Breakpoint => core,
-        GuardedStop::Fault => core,
-        GuardedStop::Budget => exhausted(core),
-        GuardedStop::HiddenWord => core,
-        GuardedStop::HiddenJump => core,
-    }
-}
 
 pub struct GuardedCore {
     pub core: Core,
@@ -59,7 +46,7 @@ fn guarded_parts(
     register_marks: &mut [u8; REGISTER_COUNT],
     memory: &mut [u16; MEMORY_WORDS],
     registers: &mut [u16; REGISTER_COUNT],
-    touched: &mut [u8; MEMORY_WORDS],
+    touched: &mut [Address; MEMORY_WORDS],
     columns: &mut [u8; COLUMNS_LENGTH],
     numbers: &mut [u64; TRACE_LIMIT],
     lengths: &mut [u8; TRACE_LIMIT],
@@ -91,7 +78,7 @@ fn guarded_parts(
             register_marks,
         );
         if let Verdict::Stop(stop) = verdict {
-            let core = closed_core(stop, s);
+            let core = closed_core(stop.number(), s);
             return GuardedCore {
                 core,
                 stop,

@@ -3,10 +3,12 @@ ghost use mathlib.Core.Path.{_≡_};
 ghost use mathlib.Core.Bool.{false};
 ghost use Prim.Native.Nat.{_≤_};
 ghost use Rattle.vm.specs.Instruction.{started, steps};
-ghost use Rattle.vm.specs.View.{parts, view, Fit};
-use crate::transfer::Core;
-use crate::transfer::Done;
-use crate::transfer::tick_parts;
+ghost use Rattle.vm.specs.View.{view};
+ghost use Rattle.vm.specs.Forms.{Fit, steppedOn, given, came, left};
+use crate::parts::Core;
+use crate::parts::Done;
+use crate::parts::tick_parts;
+use control::Address;
 use control::BusTransfer;
 use control::RegisterWrite;
 use isa::MEMORY_WORDS;
@@ -31,13 +33,18 @@ pub(crate) fn instruction_parts(
     limit: Ticks,
     memory: &mut [u16; MEMORY_WORDS],
     registers: &mut [u16; REGISTER_COUNT],
-    touched: &mut [u8; MEMORY_WORDS],
+    touched: &mut [Address; MEMORY_WORDS],
     columns: &mut [u8; COLUMNS_LENGTH],
     numbers: &mut [u64; TRACE_LIMIT],
     lengths: &mut [u8; TRACE_LIMIT],
 ) -> Stepped
-    requires { ⌜ (1 ≤ limit .0) × (from .state .control .halted ≡ false) × Fit (parts from (now memory) (now registers) (now touched) (now columns) (now numbers) (now lengths)) ⌝ }
-    ensures { λ r. ⌜ (record { machine = view (parts (r .core) (now (memory .exit)) (now (registers .exit)) (now (touched .exit)) (now (columns .exit)) (now (numbers .exit)) (now (lengths .exit))); ticks = r .ticks .0; done = r .done } ≡ steps (limit .0) (started (view (parts from (now (memory .entry)) (now (registers .entry)) (now (touched .entry)) (now (columns .entry)) (now (numbers .entry)) (now (lengths .entry)))))) × Fit (parts (r .core) (now (memory .exit)) (now (registers .exit)) (now (touched .exit)) (now (columns .exit)) (now (numbers .exit)) (now (lengths .exit))) × (r .halted ≡ r .core .state .control .halted) ⌝ }
+    requires { ⌜ (1 ≤ limit .0) × (from .state .control .halted ≡ false) × Fit (given from memory registers touched columns numbers lengths) ⌝ }
+    ensures { λ r. ⌜ (
+        let was = came from memory registers touched columns numbers lengths in
+        let is = left (r .core) memory registers touched columns numbers lengths in
+        (steppedOn r is ≡ steps (limit .0) (started (view was)))
+        × Fit is
+        × (r .halted ≡ r .core .state .control .halted)) ⌝ }
 {
     let mut s = from;
     let mut done = Done {

@@ -1,17 +1,17 @@
 // The MASSEY machine: the arrays above one tick, instructions, runs, and the calls on a machine. Each
 // call takes the machine by value, checks it once, and gives it back.
-mod check;
+mod engine;
 mod guarded;
 mod instruction;
 mod machine;
 mod micro;
+mod parts;
 mod readings;
-mod report;
+mod refusal;
 mod run;
+mod step;
+mod store;
 mod texts;
-mod transfer;
-mod undo;
-mod whole;
 
 pub use guard::Begun;
 pub use guarded::GuardedRun;
@@ -21,6 +21,7 @@ pub use machine::Machine;
 pub use machine::Served;
 pub use micro::MicroAnswer;
 pub use micro::MicroOp;
+pub use parts::Core;
 pub use plan::execute_tick_count;
 pub use plan::transfer_plan;
 pub use readings::ImageRead;
@@ -29,7 +30,6 @@ pub use readings::NumberRead;
 pub use readings::PositionRead;
 pub use readings::RunningRead;
 pub use readings::TextRead;
-pub use report::InstructionAnswer;
-pub use report::InstructionReport;
 pub use run::Ran;
-pub use transfer::Core;
+pub use step::InstructionAnswer;
+pub use step::InstructionReport;

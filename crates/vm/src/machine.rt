@@ -2,8 +2,9 @@
 ghost use mathlib.Core.Path.{_≡_};
 ghost use mathlib.Core.List.{[]};
 ghost use Rattle.vm.specs.Calls.{coreOf, refusalOf, restarted, imageWords, imageSize, serve, loaded, reset, clear, clearHistory};
-use crate::check::parts_ok;
-use crate::transfer::Core;
+use crate::parts::Core;
+use crate::refusal::parts_ok;
+use control::Address;
 use control::AluRecord;
 use control::BusTransfer;
 use control::Control;
@@ -12,6 +13,7 @@ use control::Fault;
 use control::State;
 use isa::MEMORY_WORDS;
 use isa::REGISTER_COUNT;
+use isa::least;
 use trace::COLUMNS_LENGTH;
 use trace::TRACE_LIMIT;
 
@@ -19,7 +21,7 @@ use trace::TRACE_LIMIT;
 // oldest record is in slot `trace_start` modulo 512. What stands past a count shows nowhere. A number
 // stands between two large arrays, so that the compiler copies each straight to its place.
 pub struct Machine {
-    pub touched: [u8; MEMORY_WORDS],
+    pub touched: [Address; MEMORY_WORDS],
     pub touched_len: usize,
     pub lengths: [u8; TRACE_LIMIT],
     pub trace_len: usize,
@@ -101,7 +103,7 @@ pub(crate) fn switched_on(
     let columns = [0u8; COLUMNS_LENGTH];
     let numbers = [0u64; TRACE_LIMIT];
     let lengths = [0u8; TRACE_LIMIT];
-    let touched = [0u8; MEMORY_WORDS];
+    let touched = [0 as Address; MEMORY_WORDS];
     Machine {
         memory: image,
         registers,
@@ -156,11 +158,7 @@ pub(crate) fn mark_words(marks: &[u8]) -> [u8; MEMORY_WORDS]
 pub(crate) fn image_size(len: usize) -> usize
     ensures { λ r. ⌜ r ≡ imageSize len ⌝ }
 {
-    if len < MEMORY_WORDS {
-        len
-    } else {
-        MEMORY_WORDS
-    }
+    least(len, MEMORY_WORDS)
 }
 
 // The new machine where the call is served, else the old one.

@@ -1,17 +1,18 @@
 // One register transfer, as it is called.
 ghost use mathlib.Core.Path.{_≡_};
 ghost use mathlib.Core.Bool.{true};
-ghost use Rattle.vm.specs.View.{view, given, came, left};
-ghost use Rattle.vm.specs.Refusal.{sound, refusalOn, Sizes};
-ghost use Rattle.vm.specs.Calls.{hasFault, noOp, haltedOp, opAfter, opAnswer, answered, microOutcome, microAnswer};
+ghost use Rattle.vm.specs.View.{view};
+ghost use Rattle.vm.specs.Forms.{given, came, left, sound, refusalOn, Sizes};
+ghost use Rattle.vm.specs.StepCalls.{hasFault, noOp, haltedOp, opAfter, opAnswer, answered, microEffect, microAnswer};
 ghost use Rattle.vm.specs.Calls.{viewOf, isMachine, stepRefusalOf, restOf};
-use crate::check::step_refusal;
 use crate::instruction::Ticks;
 use crate::instruction::instruction_parts;
 use crate::machine::Machine;
+use crate::parts::Core;
+use crate::parts::Done;
+use crate::refusal::step_refusal;
 use crate::texts::newest_text;
-use crate::transfer::Core;
-use crate::transfer::Done;
+use control::Address;
 use control::BusTransfer;
 use control::Fault;
 use control::RegisterWrite;
@@ -121,7 +122,7 @@ fn micro_parts(
     size: usize,
     memory: &mut [u16; MEMORY_WORDS],
     registers: &mut [u16; REGISTER_COUNT],
-    touched: &mut [u8; MEMORY_WORDS],
+    touched: &mut [Address; MEMORY_WORDS],
     columns: &mut [u8; COLUMNS_LENGTH],
     numbers: &mut [u64; TRACE_LIMIT],
     lengths: &mut [u8; TRACE_LIMIT],
@@ -130,7 +131,7 @@ fn micro_parts(
     ensures { λ r. ⌜ (
         let was = came core memory registers touched columns numbers lengths in
         let is = left (r .core) memory registers touched columns numbers lengths in
-        (answered (r .refused) (r .op) (view is) ≡ microOutcome (refusalOn size was) (view was))
+        (answered (r .refused) (r .op) (view is) ≡ microEffect (refusalOn size was) (view was))
         × ((r .refused ≡ 0 → ⊥) → is ≡ was)
         × (sound size was ≡ true → sound size is ≡ true)) ⌝ }
 {
@@ -181,7 +182,7 @@ impl Machine {
     // Perform exactly one register transfer.
     pub fn micro_step(self) -> MicroAnswer
         ensures answer { λ r. ⌜ answered (r .refused) (opAnswer (r .op)) (viewOf (r .machine))
-            ≡ microAnswer (microOutcome (stepRefusalOf self) (viewOf self)) ⌝ }
+            ≡ microAnswer (microEffect (stepRefusalOf self) (viewOf self)) ⌝ }
         ensures rest { λ r. ⌜ restOf (r .machine) ≡ restOf self ⌝ }
         ensures kept { λ r. ⌜ ((r .refused ≡ 0 → ⊥) → r .machine ≡ self) ⌝ }
         ensures lasting { λ r. ⌜ (isMachine self ≡ true → isMachine (r .machine) ≡ true) ⌝ }

@@ -1,12 +1,12 @@
 // The calls that read a machine and leave it as it is. A refused one answers zeros beside its number.
 ghost use mathlib.Core.Path.{_≡_};
 ghost use mathlib.Core.Bool.{not};
-ghost use Prim.Native.Nat.{ℕ};
 ghost use lib.ListN.{getD};
 ghost use Rattle.isa.specs.Text.{text};
 ghost use Rattle.isa.specs.Word.{instruction};
 ghost use Rattle.disasm.specs.Disassembly.{disassembleText};
-ghost use Rattle.vm.specs.Calls.{refusalOf, numberRead, runningRead, instructionRead, textRead, positionRead, positionOf, imageRead};
+ghost use Rattle.vm.specs.Calls.{refusalOf};
+ghost use Rattle.vm.specs.ReadCalls.{numberRead, runningRead, instructionRead, textRead, positionRead, positionOf, imageRead};
 use crate::machine::Machine;
 use crate::machine::refusal_of;
 use disasm::disassemble;

@@ -1,15 +1,17 @@
 // Runs: instructions until the machine halts, a breakpoint, or the end of the budget.
 ghost use mathlib.Core.Path.{_≡_};
-ghost use mathlib.Core.Bool.{true, false};
-ghost use Rattle.vm.specs.Run.{run};
-ghost use Rattle.vm.specs.View.{view, Fit, spentCore, stoppedCore, stoppedParts, given, came, left};
-ghost use Rattle.vm.specs.Refusal.{sound, Sizes};
-ghost use Rattle.vm.specs.Calls.{ranOn, runOutcome, runAnswer, answerOf, stoppedCode, viewOf, isMachine, restOf};
-use crate::check::parts_ok;
+ghost use mathlib.Core.Bool.{true};
+ghost use Rattle.vm.specs.Run.{runNumber, run};
+ghost use Rattle.vm.specs.View.{view};
+ghost use Rattle.vm.specs.Calls.{viewOf, isMachine, restOf};
+ghost use Rattle.vm.specs.RunCalls.{runCall, runAnswer, answerOf, closedCode};
+ghost use Rattle.vm.specs.Forms.{Fit, closedCore, closedParts, given, came, left, sound, Sizes, ranOn};
+use crate::engine::forward_parts;
+use crate::engine::next_parts;
 use crate::machine::Machine;
-use crate::transfer::Core;
-use crate::whole::forward_parts;
-use crate::whole::next_parts;
+use crate::parts::Core;
+use crate::refusal::parts_ok;
+use control::Address;
 use control::Fault;
 use control::State;
 use guard::Begun;
@@ -27,10 +29,13 @@ pub struct RanCore {
     pub executed: Begun,
 }
 
-// The budget is spent.
-pub(crate) fn exhausted(s: Core) -> Core
-    ensures { λ r. ⌜ r ≡ spentCore s ⌝ }
+// Of the stops, by their numbers, only a spent budget changes the machine: it is halted by a fault.
+pub(crate) fn closed_core(stop: u8, s: Core) -> Core
+    ensures { λ r. ⌜ r ≡ closedCore stop s ⌝ }
 {
+    if stop != 3 {
+        return s;
+    }
     let old = s.state;
     let mut control = old.control;
     control.halted = true;
@@ -56,20 +61,6 @@ pub(crate) fn exhausted(s: Core) -> Core
     }
 }
 
-// Of the stops only a spent budget changes the machine.
-fn stopped_core(stop: RunStop, core: Core) -> Core
-    ensures { λ r. ⌜ r ≡ stoppedCore stop core ⌝ }
-{
-    match stop {
-        RunStop::Halted => core,
-        RunStop::Breakpoint(_) => core,
-        RunStop::Fault => core,
-        RunStop::Budget => exhausted(core),
-        RunStop::AlreadyHalted => core,
-        RunStop::Refused(_) => core,
-    }
-}
-
 // The run: instructions with their records, and behind the first one those that its end does not show. There are no
 // marks that could hide anything.
 pub(crate) fn run_parts(
@@ -78,7 +69,7 @@ pub(crate) fn run_parts(
     breakpoints: &[u8],
     memory: &mut [u16; MEMORY_WORDS],
     registers: &mut [u16; REGISTER_COUNT],
-    touched: &mut [u8; MEMORY_WORDS],
+    touched: &mut [Address; MEMORY_WORDS],
     columns: &mut [u8; COLUMNS_LENGTH],
     numbers: &mut [u64; TRACE_LIMIT],
     lengths: &mut [u8; TRACE_LIMIT],
@@ -88,7 +79,7 @@ pub(crate) fn run_parts(
         let was = came from memory registers touched columns numbers lengths in
         let is = left (r .core) memory registers touched columns numbers lengths in
         (ranOn r is ≡ run (now (breakpoints .entry)) 0 (budget .0) (view was))
-        × (r .executed .0 ≡ 0 → is ≡ stoppedParts (r .stop) was)
+        × (r .executed .0 ≡ 0 → is ≡ closedParts (runNumber (r .stop)) was)
         × Fit is) ⌝ }
 {
     let mut marks = [0u8; MEMORY_WORDS];
@@ -101,7 +92,7 @@ pub(crate) fn run_parts(
         let counters = s.counters;
         let verdict = run_verdict(state, counters, breakpoints, Begun(begun), Begun(limit));
         if let RunVerdict::Stop(stop) = verdict {
-            let core = stopped_core(stop, s);
+            let core = closed_core(stop.number(), s);
             return RanCore {
                 core,
                 stop,
@@ -145,7 +136,7 @@ fn run_checked(
     breakpoints: &[u8],
     memory: &mut [u16; MEMORY_WORDS],
     registers: &mut [u16; REGISTER_COUNT],
-    touched: &mut [u8; MEMORY_WORDS],
+    touched: &mut [Address; MEMORY_WORDS],
     columns: &mut [u8; COLUMNS_LENGTH],
     numbers: &mut [u64; TRACE_LIMIT],
     lengths: &mut [u8; TRACE_LIMIT],
@@ -154,8 +145,8 @@ fn run_checked(
     ensures { λ r. ⌜ (
         let was = came core memory registers touched columns numbers lengths in
         let is = left (r .core) memory registers touched columns numbers lengths in
-        (ranOn r is ≡ runOutcome (sound size was) (now (breakpoints .entry)) (budget .0) (view was))
-        × (r .executed .0 ≡ 0 → is ≡ stoppedParts (r .stop) was)
+        (ranOn r is ≡ runCall (sound size was) (now (breakpoints .entry)) (budget .0) (view was))
+        × (r .executed .0 ≡ 0 → is ≡ closedParts (runNumber (r .stop)) was)
         × (sound size was ≡ true → sound size is ≡ true)) ⌝ }
 {
     let good = parts_ok(core, size, touched, lengths);
@@ -196,9 +187,9 @@ pub struct Ran {
 impl Machine {
     // Run until HALT, a fault, a breakpoint or the end of the budget.
     pub fn run(self, budget: Begun, breakpoints: &[u8]) -> Ran
-        ensures answer { λ r. ⌜ answerOf r ≡ runAnswer (runOutcome (isMachine self) (now (breakpoints .entry)) (budget .0) (viewOf self)) ⌝ }
+        ensures answer { λ r. ⌜ answerOf r ≡ runAnswer (runCall (isMachine self) (now (breakpoints .entry)) (budget .0) (viewOf self)) ⌝ }
         ensures rest { λ r. ⌜ restOf (r .machine) ≡ restOf self ⌝ }
-        ensures kept { λ r. ⌜ (r .executed .0 ≡ 0 → r .machine ≡ stoppedCode (r .stop) self) ⌝ }
+        ensures kept { λ r. ⌜ (r .executed .0 ≡ 0 → r .machine ≡ closedCode (runNumber (r .stop)) self) ⌝ }
         ensures lasting { λ r. ⌜ (isMachine self ≡ true → isMachine (r .machine) ≡ true) ⌝ }
     {
         let state = self.state;
@@ -260,9 +251,9 @@ impl Machine {
     // The same by the direct engine, which `run` is: its instructions are whole ones, but for one that the call finds
     // under way.
     pub fn direct_run(self, budget: Begun, breakpoints: &[u8]) -> Ran
-        ensures answer { λ r. ⌜ answerOf r ≡ runAnswer (runOutcome (isMachine self) (now (breakpoints .entry)) (budget .0) (viewOf self)) ⌝ }
+        ensures answer { λ r. ⌜ answerOf r ≡ runAnswer (runCall (isMachine self) (now (breakpoints .entry)) (budget .0) (viewOf self)) ⌝ }
         ensures rest { λ r. ⌜ restOf (r .machine) ≡ restOf self ⌝ }
-        ensures kept { λ r. ⌜ (r .executed .0 ≡ 0 → r .machine ≡ stoppedCode (r .stop) self) ⌝ }
+        ensures kept { λ r. ⌜ (r .executed .0 ≡ 0 → r .machine ≡ closedCode (runNumber (r .stop)) self) ⌝ }
         ensures lasting { λ r. ⌜ (isMachine self ≡ true → isMachine (r .machine) ≡ true) ⌝ }
     {
         self.run(budget, breakpoints)

@@ -5,7 +5,7 @@ ghost use mathlib.Core.List.{[]};
 ghost use lib.ListN.{length, getD};
 ghost use Rattle.isa.specs.Text.{text};
 ghost use Rattle.vm.specs.Instruction.{textsFrom};
-ghost use Rattle.trace.specs.Trace.{textAt, liveTexts, newest, textsIn, columnsLength};
+ghost use Rattle.trace.specs.Trace.{textAt, liveTexts, takeLast, textsIn, columnsLength, traceLimit};
 use isa::Text;
 use plan::TransferPlan;
 use trace::COLUMNS_LENGTH;
@@ -14,7 +14,7 @@ use trace::TRACE_LIMIT;
 
 // The text in slot `at`.
 fn text_at(at: usize, columns: &[u8; COLUMNS_LENGTH], lengths: &[u8; TRACE_LIMIT]) -> Text
-    requires { ⌜ (at < 512) × (length (now columns) ≡ columnsLength) × (length (now lengths) ≡ 512) ⌝ }
+    requires { ⌜ (at < traceLimit) × (length (now columns) ≡ columnsLength) × (length (now lengths) ≡ traceLimit) ⌝ }
     ensures { λ r. ⌜ r ≡ textAt (textsIn (now (columns .entry))) (now (lengths .entry)) at ⌝ }
 {
     let mut bytes = [0u8; 32];
@@ -37,8 +37,8 @@ pub(crate) fn newest_text(
     columns: &[u8; COLUMNS_LENGTH],
     lengths: &[u8; TRACE_LIMIT],
 ) -> Text
-    requires { ⌜ (n ≤ ring .len) × (ring .len ≤ 512) × (length (now columns) ≡ columnsLength) × (length (now lengths) ≡ 512) ⌝ }
-    ensures { λ r. ⌜ r ≡ getD (newest n (liveTexts (ring .start) (ring .len) (textsIn (now (columns .entry))) (now (lengths .entry)))) i (text []) ⌝ }
+    requires { ⌜ (n ≤ ring .len) × (ring .len ≤ traceLimit) × (length (now columns) ≡ columnsLength) × (length (now lengths) ≡ traceLimit) ⌝ }
+    ensures { λ r. ⌜ r ≡ getD (takeLast n (liveTexts (ring .start) (ring .len) (textsIn (now (columns .entry))) (now (lengths .entry)))) i (text []) ⌝ }
 {
     if n <= i {
         return Text::from_bytes(b"");
@@ -55,8 +55,9 @@ pub(crate) fn newest_texts(
     columns: &[u8; COLUMNS_LENGTH],
     lengths: &[u8; TRACE_LIMIT],
 ) -> TransferPlan
-    requires { ⌜ (n ≤ 7) × (n ≤ ring .len) × (ring .len ≤ 512) × (length (now columns) ≡ columnsLength) × (length (now lengths) ≡ 512) ⌝ }
-    ensures { λ r. ⌜ r ≡ textsFrom (newest n (liveTexts (ring .start) (ring .len) (textsIn (now (columns .entry))) (now (lengths .entry)))) ⌝ }
+    requires { ⌜ (n ≤ 7) × (n ≤ ring .len) × (ring .len ≤ traceLimit)
+        × (length (now columns) ≡ columnsLength) × (length (now lengths) ≡ traceLimit) ⌝ }
+    ensures { λ r. ⌜ r ≡ textsFrom (takeLast n (liveTexts (ring .start) (ring .len) (textsIn (now (columns .entry))) (now (lengths .entry)))) ⌝ }
 {
     let count = n as u8;
     let all = [

@@ -6,7 +6,8 @@ use mathlib.Core.List.{List, _++_}
 use denote.Ref.{now}
 use lib.ListN.{replicate}
 use Rattle.isa.specs.Text.{ascii}
-use Rattle.answer.specs.Line.{decimal, countsLine}
+use Rattle.isa.specs.Format.{decimal}
+use Rattle.answer.specs.Line.{countsLine}
 use Rattle.answer.specs.Answer.{answerOutcome}
 use Rattle.answer.proofs.Lines.{two-pieces}
 use borrow.Author.Needs.{needs}
@@ -53,7 +54,7 @@ returns c =
     let a = r .before .before .before .before .args in
     p .put-whole .ensures
     ∙ ap (λ (l : List ℕ). answerOutcome l (now (a .out)))
-    (two-pieces (replicate 64 0) (decimal (a .passed) ++ ascii " passed, ") (decimal (a .failed) ++ ascii " failed\n") (r .put-numbered .result) (omega (arith, r .put-numbered .ensures .0)) (omega (arith, r .put-numbered .ensures .1 .0)) (r .put-numbered .ensures .1 .1) (q .put-numbered2 .ensures .1 .1) (q .put-numbered2 .ensures .0) (f .first .ensures))
+    (two-pieces (replicate 64 0) (decimal 20 (a .passed) ++ ascii " passed, ") (decimal 20 (a .failed) ++ ascii " failed\n") (r .put-numbered .result) (omega (arith, r .put-numbered .ensures .0)) (omega (arith, r .put-numbered .ensures .1 .0)) (r .put-numbered .ensures .1 .1) (q .put-numbered2 .ensures .1 .1) (q .put-numbered2 .ensures .0) (f .first .ensures))
 
 pub put-counts-spec : {M : Type 1} → statement M
 put-counts-spec =

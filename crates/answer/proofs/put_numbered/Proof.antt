@@ -4,7 +4,7 @@ use native.Mathlib.Omega.{arith}
 use mathlib.Core.Path.{_≡_}
 use denote.Ref.{now}
 use lib.ListN.{length, length-append}
-use Rattle.answer.specs.Line.{decimal}
+use Rattle.isa.specs.Format.{decimal}
 use Rattle.answer.proofs.Lines.{few, count, numbered}
 use borrow.Author.Needs.{needs}
 use Rattle.answer.proofs.put_numbered.Statement.{statement}
@@ -46,7 +46,7 @@ returns c =
     let a = d .before .before .before .before .args in
     let s = short d in
     let t = now (a .text) in
-    let l : length (decimal (a .n)) ≡ d .decimal .result = count (a .n) (omega arith) (d .decimal .ensures .1 .0) (d .decimal .ensures .1 .1) in (
+    let l : length (decimal 20 (a .n)) ≡ d .decimal .result = count (a .n) (omega arith) (d .decimal .ensures .1 .0) (d .decimal .ensures .1 .1) in (
       simp length-append (omega arith),
       (
         omega arith,

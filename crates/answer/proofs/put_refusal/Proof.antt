@@ -6,8 +6,9 @@ use denote.Ref.{now}
 use lib.Dec.{lit≤}
 use lib.ListN.{replicate}
 use Rattle.isa.specs.Text.{ascii}
+use Rattle.isa.specs.Format.{decimal}
 use Rattle.encoding.proofs.Written.{written-fits}
-use Rattle.answer.specs.Line.{decimal, refusalLine}
+use Rattle.answer.specs.Line.{refusalLine}
 use Rattle.answer.specs.Answer.{answerOutcome}
 use Rattle.answer.proofs.Lines.{two-pieces}
 use borrow.Author.Needs.{needs}
@@ -55,7 +56,7 @@ returns c =
     let d : List ℕ = replicate 64 0 in
     p .put-whole .ensures
     ∙ ap (λ (l : List ℕ). answerOutcome l (now (a .out)))
-    (two-pieces d (ascii "refused ") (decimal (a .number) ++ ascii "\n") 8 refl (lit≤ tt) (r .put-bytes .ensures ∙ written-fits d 0 (ascii "refused ") (lit≤ tt)) (q .put-numbered .ensures .1 .1) (q .put-numbered .ensures .0) (f .first .ensures))
+    (two-pieces d (ascii "refused ") (decimal 20 (a .number) ++ ascii "\n") 8 refl (lit≤ tt) (r .put-bytes .ensures ∙ written-fits d 0 (ascii "refused ") (lit≤ tt)) (q .put-numbered .ensures .1 .1) (q .put-numbered .ensures .0) (f .first .ensures))
 
 pub put-refusal-spec : {M : Type 1} → statement M
 put-refusal-spec =

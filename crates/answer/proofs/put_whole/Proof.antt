@@ -5,7 +5,8 @@ use borrow.Author.Tests.{lt-ltb, le-ltb}
 use denote.Ref.{now}
 use lib.ListN.{length}
 use Rattle.encoding.proofs.Written.{written-fits}
-use Rattle.answer.specs.Answer.{outcome, answerOutcome}
+use Rattle.encoding.specs.Answer.{outcome}
+use Rattle.answer.specs.Answer.{answerOutcome}
 use borrow.Author.Needs.{needs}
 use Rattle.answer.proofs.put_whole.Statement.{statement}
 use Rattle.answer.proofs.put_whole.Tie as tie

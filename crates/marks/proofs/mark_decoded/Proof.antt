@@ -3,6 +3,7 @@
 use native.Mathlib.Omega.{arith}
 use denote.Ref.{now}
 use Rattle.isa.specs.Word.{digitX, digitY}
+use Rattle.control.proofs.Addresses.{reached-below}
 use Rattle.marks.proofs.Moves.{marks-moved, pick-below}
 use borrow.Author.Needs.{needs}
 use Rattle.marks.proofs.mark_decoded.Statement.{statement}
@@ -16,6 +17,9 @@ cast-y c = search needs
 
 cast-z : tie.Need-cast-z
 cast-z c = search needs
+
+reached-address-requires : tie.Need-reached-address-requires
+reached-address-requires c κs = search needs
 
 cast-at : tie.Need-cast-at
 cast-at c = search needs
@@ -33,7 +37,9 @@ element-copy-out-moves-of : tie.Need-element-copy-out-moves-of
 element-copy-out-moves-of c = search needs
 
 element-copy-out-moves-of-2 : tie.Need-element-copy-out-moves-of-2
-element-copy-out-moves-of-2 c = search needs
+element-copy-out-moves-of-2 c =
+    let p = c .before .before .before .before in
+    omega (arith, p .reached-address .ensures, reached-below (p .before .args .word))
 
 moves-of-requires : tie.Need-moves-of-requires
 moves-of-requires c κs = search needs
@@ -43,17 +49,20 @@ pick-requires c κs = search needs
 
 element-write-registers : tie.Need-element-write-registers
 element-write-registers c =
-    let w = c .before .before .before .before .before .before .before .args .word in
-    omega (arith, c .pick .ensures, pick-below (c .before .moves-of .result .0) 16 {a = digitX w} {b = digitY w} (omega arith) (omega arith))
+    let w = c .before .before .before .before .before .before .before .before .args .word in
+    omega (arith, c .pick .ensures, pick-below (c .before .moves-of .result .«to_y») 16 {a = digitX w} {b = digitY w} (omega arith) (omega arith))
 
 element-write-memory : tie.Need-element-write-memory
-element-write-memory c = search needs
+element-write-memory c =
+    let p = c .before .before .before .before .before .before .before in
+    omega (arith, p .reached-address .ensures, reached-below (p .before .args .word))
 
 returns : tie.Need-returns
 returns c =
     let k = c .before .before .before .before in
-    let a = k .before .before .before .args in
-    marks-moved (a .word) (now (a .memory)) (now (a .registers)) (a .decoded) (k .join .ensures) (c .before .moves-of .ensures) (c .pick .ensures)
+    let p = k .before .before .before in
+    let a = p .before .args in
+    marks-moved (a .word) (now (a .memory)) (now (a .registers)) (a .decoded) (p .reached-address .ensures) (k .join .ensures) (c .before .moves-of .ensures) (c .pick .ensures)
 
 pub mark-decoded-spec : {M : Type 1} → statement M
 mark-decoded-spec =
@@ -62,6 +71,7 @@ mark-decoded-spec =
     cast-x
     cast-y
     cast-z
+    reached-address-requires
     cast-at
     element-copy-out-second
     element-copy-out-third

@@ -3,12 +3,11 @@ use Prim.Native.Nat.{_≤_}
 use native.Mathlib.Omega.{arith}
 use mathlib.Core.Path.{_≡_, sym, ap, _∙_}
 use denote.Ref.{now}
-use Rattle.encoding.specs.Answer.{Outcome}
+use Rattle.encoding.specs.Answer.{Outcome, outcome, Told}
 use Rattle.listing.specs.declared.Listed.{Listed}
-use Rattle.listing.specs.declared.Listed.the-variants.{Written, Refused}
 use Rattle.listing.specs.Listing as listing
 use Rattle.listing.proofs.Listings.{bytes-at-most}
-use Rattle.report.specs.Public.{reportLimit}
+use Rattle.secret.specs.Widths.{reportLimit}
 use Rattle.massey.specs.Calls.{listingOutcome}
 use Rattle.massey.proofs.Answers.{numbered, small, length-read, minus-fits, refusal-read}
 use borrow.Author.Needs.{needs}
@@ -17,11 +16,11 @@ use Rattle.massey.proofs.massey_listing.Tie as tie
 
 -- what is told, where a length is answered and where a refusal's number is
 module _ (p : tie.After-list-bytes) where
-  told : {l : Listed} → p .list-bytes .result ≡ l → listing.outcome l (p .list-bytes .last .1 .0) ≡ listing.bytesOutcome (now (p .before .before .before .before .args .image)) (now (p .before .before .before .before .args .out))
-  told e = ap (λ (l : Listed). listing.outcome l (p .list-bytes .last .1 .0)) (sym e) ∙ p .list-bytes .ensures
+  told : {l : Listed} → p .list-bytes .result ≡ l → outcome (listing.told l) (p .list-bytes .last .1 .0) ≡ listing.bytesOutcome (now (p .before .before .before .before .args .image)) (now (p .before .before .before .before .args .out))
+  told e = ap (λ (l : Listed). outcome (listing.told l) (p .list-bytes .last .1 .0)) (sym e) ∙ p .list-bytes .ensures
 
 listed : (c : tie.After-known-told) → c .before .listed .given .0 .0 ≡ listing.bytesOutcome (now (c .before .before .before .before .before .before .before .before .before .args .image)) (now (c .before .before .before .before .before .before .before .before .before .args .out)) .answer .length
-listed c = ap (λ (o : Outcome). o .answer .length) (told (c .before .before .before .before .before) (c .before .listed .given .1))
+listed c = ap (λ (o : Outcome Told). o .answer .length) (told (c .before .before .before .before .before) (c .before .listed .given .1))
 
 at-most : (c : tie.After-known-told) → c .before .listed .given .0 .0 ≤ reportLimit
 at-most c =

@@ -3,12 +3,12 @@ use Prim.Native.Nat.{_≤_}
 use native.Mathlib.Omega.{arith}
 use mathlib.Core.Path.{_≡_, sym, ap, _∙_}
 use denote.Ref.{now}
-use Rattle.encoding.specs.Answer.{Outcome}
-use Rattle.report.specs.declared.Reported.{Reported}
-use Rattle.report.specs.Outcome as reporting
-use Rattle.report.specs.Program.{bytesOutcome}
-use Rattle.report.proofs.Programs.{bytes-at-most}
-use Rattle.report.specs.Public.{reportLimit}
+use Rattle.encoding.specs.Answer.{Outcome, outcome, Told}
+use Rattle.secret.specs.declared.Reported.{Reported}
+use Rattle.secret.specs.Outcome as reporting
+use Rattle.secret.specs.Program.{bytesOutcome}
+use Rattle.secret.proofs.Programs.{bytes-at-most}
+use Rattle.secret.specs.Widths.{reportLimit}
 use Rattle.massey.specs.Calls.{reportedOutcome}
 use Rattle.massey.proofs.Answers.{numbered, small, length-read, minus-fits, refusal-read}
 use borrow.Author.Needs.{needs}
@@ -18,14 +18,14 @@ use Rattle.massey.proofs.massey_report.Tie as tie
 -- what is told, where a length is answered and where a refusal's number is
 module _ (p : tie.After-report-bytes) where
   told : {r : Reported} → p .report-bytes .result ≡ r
-      → reporting.outcome r (p .report-bytes .last .1 .0) ≡ bytesOutcome (now (p .before .before .before .before .args .input)) (now (p .before .before .before .before .args .out))
-  told e = ap (λ (r : Reported). reporting.outcome r (p .report-bytes .last .1 .0)) (sym e) ∙ p .report-bytes .ensures
+      → outcome (reporting.told r) (p .report-bytes .last .1 .0) ≡ bytesOutcome (now (p .before .before .before .before .args .input)) (now (p .before .before .before .before .args .out))
+  told e = ap (λ (r : Reported). outcome (reporting.told r) (p .report-bytes .last .1 .0)) (sym e) ∙ p .report-bytes .ensures
 
 at-most : (c : tie.After-known-told) → c .before .reported .given .0 .0 ≤ reportLimit
 at-most c =
     let p = c .before .before .before .before .before in
     let s = p .before .before .before .before .args in
-    let e = ap (λ (o : Outcome). o .answer .length) (told p (c .before .reported .given .1)) in
+    let e = ap (λ (o : Outcome Told). o .answer .length) (told p (c .before .reported .given .1)) in
     omega (arith, e, bytes-at-most (now (s .input)) (now (s .out)))
 
 byte : (c : tie.After-known-told2) → c .before .reported2 .given .0 .0 ≤ 255

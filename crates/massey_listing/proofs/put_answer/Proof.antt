@@ -1,13 +1,12 @@
 -- Assumes nothing.
-use mathlib.Core.Bool.{Bool, true, false}
+use mathlib.Core.Bool.{true, false}
 use mathlib.Core.Path.{_≡_, sym, ap, _∙_}
-use mathlib.Core.List.{List}
 use borrow.Author.Tests.{not-true, not-false}
 use denote.Ref.{now}
 use Rattle.listing.specs.declared.Listed.{Listed}
-use Rattle.listing.specs.Listing as listing
-use Rattle.massey_listing.specs.Answer.{programOutcome}
-use Rattle.massey_listing.proofs.Answers.{served, refused, not-whole}
+use Rattle.encoding.specs.Answer.{outcome}
+use Rattle.listing.specs.Listing.{told}
+use Rattle.massey_listing.proofs.Answers.{written-answer, refused-answer, not-whole}
 use borrow.Author.Needs.{needs}
 use Rattle.massey_listing.proofs.put_answer.Statement.{statement}
 use Rattle.massey_listing.proofs.put_answer.Tie as tie
@@ -46,8 +45,8 @@ returns-2 c =
     let f = p .before .before in
     let s = f .before .before .before .args in
     let w : s .whole ≡ true = not-false (s .whole) (f .if1 .left) in
-    let e = ap (λ (l : Listed). listing.outcome l (p .list-bytes .last .1 .0)) (sym (c .before .listed .given .1)) ∙ p .list-bytes .ensures in
-    rw w (served (now (s .input)) (now (s .out)) e)
+    let e = ap (λ (l : Listed). outcome (told l) (p .list-bytes .last .1 .0)) (sym (c .before .listed .given .1)) ∙ p .list-bytes .ensures in
+    rw w (written-answer (now (s .input)) (now (s .out)) e)
 
 same-length-3 : tie.Need-same-length-3
 same-length-3 c = search needs
@@ -60,8 +59,8 @@ returns-3 c =
     let f = q .before .before in
     let s = f .before .before .before .args in
     let w : s .whole ≡ true = not-false (s .whole) (f .if1 .left) in
-    let e = ap (λ (r : Listed). listing.outcome r (q .list-bytes .last .1 .0)) (sym (l .listed2 .given .1)) ∙ q .list-bytes .ensures in
-    rw w (refused (now (s .input)) (now (s .out)) (l .listed2 .given .0 .0) e (p .put-refusal2 .ensures))
+    let e = ap (λ (r : Listed). outcome (told r) (q .list-bytes .last .1 .0)) (sym (l .listed2 .given .1)) ∙ q .list-bytes .ensures in
+    rw w (refused-answer (now (s .input)) (now (s .out)) (l .listed2 .given .0 .0) e (p .put-refusal2 .ensures))
 
 pub put-answer-spec : {M : Type 1} → statement M
 put-answer-spec =

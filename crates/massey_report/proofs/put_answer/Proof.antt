@@ -1,11 +1,11 @@
 -- `put_answer` meets its contract: the answer is what the call on bytes tells.
 -- Assumes nothing.
-use mathlib.Core.Path.{_≡_, refl, sym, ap, _∙_}
-use mathlib.Core.Bool.{true, false}
+use mathlib.Core.Path.{sym, ap, _∙_}
 use borrow.Author.Tests.{not-true, not-false}
 use denote.Ref.{now}
-use Rattle.report.specs.declared.Reported.{Reported}
-use Rattle.report.specs.Outcome as reporting
+use Rattle.secret.specs.declared.Reported.{Reported}
+use Rattle.encoding.specs.Answer.{outcome}
+use Rattle.secret.specs.Outcome as reporting
 use Rattle.massey_report.proofs.Answers.{failed-answer, written-answer, refused-answer}
 use borrow.Author.Needs.{needs}
 use Rattle.massey_report.proofs.put_answer.Statement.{statement}
@@ -44,7 +44,7 @@ returns-2 c =
     let f = p .before .before in
     let s = f .before .before .before .args in
     written-answer (now (s .input)) (now (s .out)) (not-false (s .whole) (f .if1 .left))
-    (ap (λ (r : Reported). reporting.outcome r (p .report-bytes .last .1 .0)) (sym (c .before .reported .given .1)) ∙ p .report-bytes .ensures)
+    (ap (λ (r : Reported). outcome (reporting.told r) (p .report-bytes .last .1 .0)) (sym (c .before .reported .given .1)) ∙ p .report-bytes .ensures)
 
 same-length-3 : tie.Need-same-length-3
 same-length-3 c = search needs
@@ -57,7 +57,7 @@ returns-3 c =
     let s = f .before .before .before .args in
     c .before .before .put-refusal2 .ensures
     ∙ refused-answer (now (s .input)) (now (s .out)) (not-false (s .whole) (f .if1 .left))
-    (ap (λ (r : Reported). reporting.outcome r (p .report-bytes .last .1 .0)) (sym (l .reported2 .given .1)) ∙ p .report-bytes .ensures)
+    (ap (λ (r : Reported). outcome (reporting.told r) (p .report-bytes .last .1 .0)) (sym (l .reported2 .given .1)) ∙ p .report-bytes .ensures)
 
 pub put-answer-spec : {M : Type 1} → statement M
 put-answer-spec =

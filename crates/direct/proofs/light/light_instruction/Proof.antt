@@ -1,6 +1,7 @@
 -- Assumes nothing.
 use denote.Ref.{now}
 use Rattle.direct.specs.Lane.{slotsOf}
+use Rattle.direct.proofs.Words.{sends}
 use Rattle.direct.proofs.Lanes.{is-step}
 use borrow.Author.Needs.{needs}
 use Rattle.direct.proofs.light.light_instruction.Statement.{statement}
@@ -25,7 +26,10 @@ set-word-requires : tie.Need-set-word-requires
 set-word-requires c κs = search needs
 
 touch-seen-requires : tie.Need-touch-seen-requires
-touch-seen-requires c κs = search needs
+touch-seen-requires c κs =
+    let w = c .before .before .before .before .before .before in
+    let a = w .before .before .before .before .before .before .before .before .args in
+    sends (a .decoded) (a .word) (w .before .wrapping-add-u8 .result) (a .s .alu) (w .before .before .read-operands .result) (w .work-of .ensures)
 
 count-whole-requires : tie.Need-count-whole-requires
 count-whole-requires c κs = search needs

@@ -1,9 +1,11 @@
 -- Assumes nothing.
-use Prim.Native.Nat.{ℕ, _≤_, _-_, zero-le}
+use Prim.Native.Nat.{_≤_, _-_, zero-le}
 use native.Mathlib.Omega.{arith}
 use mathlib.Core.Path.{_≡_, refl, sym, _∙_}
 use denote.Ref.{now}
 use lib.ListN.{length, drop, length-set}
+use Rattle.isa.specs.Sizes.{memoryWords}
+use Rattle.control.proofs.Addresses.{of-memory}
 use Rattle.direct.specs.Table.{tableFrom, tableOf}
 use Rattle.direct.proofs.Tables.{table-turn, table-end}
 use borrow.Author.Needs.{needs}
@@ -11,7 +13,7 @@ use Rattle.direct.proofs.table.table_of.Statement.{statement}
 use Rattle.direct.proofs.table.table_of.Tie as tie
 
 abbrev Inv-loop : tie.InvT-loop
-Inv-loop items table₀ i₀ table i = (i ≤ length items) × (length table ≡ 256) × (tableFrom table (drop i items) ≡ tableOf items)
+Inv-loop items table₀ i₀ table i = (i ≤ length items) × (length table ≡ memoryWords) × (tableFrom table (drop i items) ≡ tableOf items)
 
 abbrev μ-loop : tie.MeasureT-loop
 μ-loop items table₀ i₀ table i = length items - i
@@ -26,7 +28,7 @@ cast-a : tie.Need-cast-a Inv-loop μ-loop
 cast-a c = omega (arith, c .shared-slice-known .given (c .before .before .loop .i))
 
 array-write-table : tie.Need-array-write-table Inv-loop μ-loop
-array-write-table c = let l = c .before .before .loop in omega (arith, c .shared-slice-known .given (l .i), l .inv .1)
+array-write-table c = let l = c .before .before .loop in omega (arith, of-memory (c .shared-slice-known .given (l .i)), l .inv .1)
 
 add-i : tie.Need-add-i Inv-loop μ-loop
 add-i c = search needs

@@ -1,5 +1,7 @@
 -- Assumes nothing.
+use mathlib.Core.Path.{subst}
 use borrow.Author.Needs.{needs}
+use Rattle.trace.specs.Touched.{Addressed}
 use Rattle.direct.proofs.table.touch_seen.Statement.{statement}
 use Rattle.direct.proofs.table.touch_seen.Tie as tie
 
@@ -13,7 +15,7 @@ enum-known-bus : tie.Need-enum-known-bus
 enum-known-bus c = search needs
 
 note-seen-requires : tie.Need-note-seen-requires
-note-seen-requires c κs = search needs
+note-seen-requires c κs = subst Addressed (c .before .before .before .bus .given .1) (c .before .before .before .before .before .pre)
 
 returns : tie.Need-returns
 returns c = rw (c .enum-told .given .1)

@@ -1,5 +1,6 @@
 -- Assumes nothing.
 use lib.Dec.{eqb}
+use Rattle.control.specs.Control.{freshControl, withPc, withIr, withMar, withMdr, withAddress, withExecuteTicks, withHalted}
 use borrow.Author.Needs.{needs}
 use Rattle.direct.proofs.whole.state_by.Statement.{statement}
 use Rattle.direct.proofs.whole.state_by.Tie as tie
@@ -24,16 +25,12 @@ returns c =
     let e = c .before .before .before .before .execute-tick-count in
     let a = c .before .before .before .before .before .args in
     λ i. record {
-      control = record {
-        pc = a .work .pc;
-        ir = a .word;
-        mar = c .before .before .before .last-address .ensures i;
-        mdr = c .before .before .last-value .ensures i;
-        «instruction_address» = a .address;
-        tick = 0;
-        «execute_ticks» = e .ensures i;
-        halted = eqb (e .ensures i) 0;
-      };
+      control =
+          withPc (a .work .pc)
+          (withIr (a .word)
+          (withMar (c .before .before .before .last-address .ensures i)
+          (withMdr (c .before .before .last-value .ensures i)
+          (withAddress (a .address) (withExecuteTicks (e .ensures i) (withHalted (eqb (e .ensures i) 0) freshControl))))));
       fault = c .fault-by .ensures i;
       «last_transfer» = c .before .last-bus .ensures i;
       «last_alu» = a .work .alu;

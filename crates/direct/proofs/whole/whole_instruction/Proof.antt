@@ -5,7 +5,7 @@ use denote.Ref.{now}
 use Rattle.isa.specs.Word.{decodeWord}
 use Rattle.isa.proofs.Words.{read-off}
 use Rattle.direct.specs.Whole.{heldOf}
-use Rattle.direct.proofs.Words.{few-ticks}
+use Rattle.plan.proofs.Plans.{ticks-few}
 use Rattle.direct.proofs.Wholes.{is-wholly}
 use borrow.Author.Needs.{needs}
 use Rattle.direct.proofs.whole.whole_instruction.Statement.{statement}
@@ -24,7 +24,7 @@ execute-tick-count-requires : tie.Need-execute-tick-count-requires
 execute-tick-count-requires c κs = search needs
 
 add-ticks : tie.Need-add-ticks
-add-ticks c = record { fits = omega (arith, c .execute-tick-count .ensures, few-ticks (c .before .before .before .opcode .result)) }
+add-ticks c = record { fits = omega (arith, c .execute-tick-count .ensures, ticks-few (c .before .before .before .opcode .result)) }
 
 read-operands-requires : tie.Need-read-operands-requires
 read-operands-requires c κs = search needs

@@ -1,6 +1,6 @@
 -- Assumes nothing.
 use Prim.Native.Nat.{ℕ, _+_, _%_, _^_}
-use mathlib.Core.Path.{_≡_, ap, sym, _∙_}
+use mathlib.Core.Path.{ap, sym, _∙_}
 use mathlib.Core.Bool.{Bool, cond}
 use Rattle.plan.specs.Plan.{executeTicks}
 use Rattle.control.specs.Count.{oneMore}

@@ -3,7 +3,7 @@
 use mathlib.Core.Path.{_≡_, ap, sym, _∙_}
 use mathlib.Core.Bool.{true, false, not}
 use borrow.Author.Tests.{eq-eqb, ne-eqb, not-true, not-false}
-use Rattle.guard.specs.Stops.{passes}
+use Rattle.guard.specs.Forms.{passes}
 use borrow.Author.Needs.{needs}
 use Rattle.guard.proofs.stops.may_go.Statement.{statement}
 use Rattle.guard.proofs.stops.may_go.Tie as tie

@@ -8,6 +8,7 @@ use native.Mathlib.Omega.{arith}
 use borrow.Author.Needs.{needs}
 use borrow.Author.Tests.{eq-eqb, ne-eqb}
 use lib.ListN.{length, drop}
+use Rattle.isa.specs.Sizes.{memoryWords}
 use Rattle.history.specs.Differences.{differ, differencesOf}
 use Rattle.history.proofs.Collects.{Found, found-none, found-more, found-all, differ-at, differ-done}
 use Rattle.history.proofs.differing.differing_addresses.Statement.{statement}
@@ -15,13 +16,13 @@ use Rattle.history.proofs.differing.differing_addresses.Tie as tie
 
 abbrev Inv-loop : tie.InvT-loop
 Inv-loop image memory addresses₀ count₀ i₀ addresses count i =
-    (i ≤ 256) × ((count ≤ i) × Found 256 addresses count (differ i (drop i image) (drop i memory)) (differ 0 image memory))
+    (i ≤ memoryWords) × ((count ≤ i) × Found memoryWords addresses count (differ i (drop i image) (drop i memory)) (differ 0 image memory))
 
 abbrev μ-loop : tie.MeasureT-loop
-μ-loop image memory addresses₀ count₀ i₀ addresses count i = 256 - i
+μ-loop image memory addresses₀ count₀ i₀ addresses count i = memoryWords - i
 
 loop-holds : tie.Need-loop-holds Inv-loop μ-loop
-loop-holds c = (search needs, (search needs, found-none 256 _))
+loop-holds c = (search needs, (search needs, found-none memoryWords _))
 
 mul-if1 : tie.Need-mul-if1 Inv-loop μ-loop
 mul-if1 c = search needs
@@ -51,10 +52,10 @@ loop-less : tie.Need-loop-less Inv-loop μ-loop
 loop-less c = search needs
 
 -- the two arrays' lengths
-image-length : (c : tie.Start Inv-loop μ-loop) → length (c .args .t1) ≡ 256
+image-length : (c : tie.Start Inv-loop μ-loop) → length (c .args .t1) ≡ memoryWords
 image-length c = search needs
 
-memory-length : (c : tie.Start Inv-loop μ-loop) → length (c .args .t2) ≡ 256
+memory-length : (c : tie.Start Inv-loop μ-loop) → length (c .args .t2) ≡ memoryWords
 memory-length c = search needs
 
 loop-again : tie.Need-loop-again Inv-loop μ-loop
@@ -65,7 +66,7 @@ loop-again c =
     let d = differ-at (l .i) (a .t1) (a .t2) (omega (arith, image-length s)) (omega (arith, memory-length s)) in
     let f = rw d at (l .inv .1 .1) in
     ⊎-elim
-    (λ w. (search needs, (omega arith, rw (w .1, w .2) (found-more 256 (omega arith) (rw (ne-eqb _ _ (w .0 .taken)) at f)))))
+    (λ w. (search needs, (omega arith, rw (w .1, w .2) (found-more memoryWords (omega arith) (rw (ne-eqb _ _ (w .0 .taken)) at f)))))
     (λ w. (search needs, (omega arith, rw (w .1, w .2) (rw (eq-eqb _ _ (w .0 .left)) at f))))
     (c .if1 .came)
 
@@ -75,7 +76,7 @@ returns c =
     let l = c .before .loop in
     let a = c .before .before .args in
     let d : differ (l .i) (drop (l .i) (a .t1)) (drop (l .i) (a .t2)) ≡ [] = differ-done (l .i) (a .t1) (drop (l .i) (a .t2)) (omega (arith, image-length (c .before .before))) in
-    let f = found-all 256 (rw d at (l .inv .1 .1)) in
+    let f = found-all memoryWords (rw d at (l .inv .1 .1)) in
     λ i. record { addresses = f .0 i; count = f .1 i }
 
 pub differing-addresses-spec : {M : Type 1} → statement M

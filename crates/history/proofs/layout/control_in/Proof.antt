@@ -1,5 +1,6 @@
 -- `control_in` meets its contract, field by field. Assumes nothing.
 use lib.Dec.{eqb}
+use Rattle.control.specs.Control.{freshControl, withPc, withIr, withMar, withMdr, withAddress, toTick, withExecuteTicks, withHalted}
 use Rattle.history.specs.Record.{controlIn}
 use borrow.Author.Needs.{needs}
 use Rattle.history.proofs.layout.control_in.Statement.{statement}
@@ -31,16 +32,14 @@ byte-at-requires-6 c κs = search needs
 
 returns : tie.Need-returns
 unfolding controlIn
-returns c = λ i. record {
-  ir = c .before .before .before .before .before .before .word-at .ensures i;
-  mdr = c .before .before .before .before .word-at2 .ensures i;
-  pc = c .before .before .before .before .before .before .before .byte-at .ensures i;
-  mar = c .before .before .before .before .before .byte-at2 .ensures i;
-  «instruction_address» = c .before .before .before .byte-at3 .ensures i;
-  tick = c .before .before .byte-at4 .ensures i;
-  «execute_ticks» = c .before .byte-at5 .ensures i;
-  halted = eqb (c .byte-at6 .ensures i) 1;
-}
+returns c = λ i.
+    withPc (c .before .before .before .before .before .before .before .byte-at .ensures i)
+    (withIr (c .before .before .before .before .before .before .word-at .ensures i)
+    (withMar (c .before .before .before .before .before .byte-at2 .ensures i)
+    (withMdr (c .before .before .before .before .word-at2 .ensures i)
+    (withAddress (c .before .before .before .byte-at3 .ensures i)
+    (toTick (c .before .before .byte-at4 .ensures i)
+    (withExecuteTicks (c .before .byte-at5 .ensures i) (withHalted (eqb (c .byte-at6 .ensures i) 1) freshControl)))))))
 
 pub control-in-spec : {M : Type 1} → statement M
 control-in-spec =

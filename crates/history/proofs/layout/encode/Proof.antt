@@ -2,26 +2,24 @@
 use mathlib.Core.Path.{_≡_}
 use native.Mathlib.Omega.{arith}
 use lib.ListN.{length}
+use Rattle.isa.specs.Sizes.{memoryWords, registerCount}
 use Rattle.history.proofs.Records.{record-over}
 use borrow.Author.Needs.{needs}
 use Rattle.history.proofs.layout.encode.Statement.{statement}
 use Rattle.history.proofs.layout.encode.Tie as tie
 
-sixteen : (c : tie.Start) → length (c .args .snapshot .registers) ≡ 16
+sixteen : (c : tie.Start) → length (c .args .snapshot .registers) ≡ registerCount
 sixteen c = search needs
 
-many : (c : tie.Start) → length (c .args .snapshot .memory) ≡ 256
+many : (c : tie.Start) → length (c .args .snapshot .memory) ≡ memoryWords
 many c = search needs
-
-code-requires : tie.Need-code-requires
-code-requires c κs = search needs
 
 slice-aggregate-put-front : tie.Need-slice-aggregate-put-front
 slice-aggregate-put-front c = search needs
 
 put-front-requires : tie.Need-put-front-requires
 put-front-requires c κs =
-    let s = c .before .before .before .before .before .before .before in
+    let s = c .before .before .before .before .before .before in
     omega (arith, sixteen s, s .pre)
 
 put-state-requires : tie.Need-put-state-requires
@@ -38,7 +36,7 @@ put-memory-requires c κs =
     let p = c .before .before .before .before in
     let q = p .before .before .before .before in
     let r = q .before .before .before .before in
-    let s = r .before .before .before .before .before .before .before .before in
+    let s = r .before .before .before .before .before .before .before in
     (many s, omega (arith, p .put-counts .kept, q .put-state .kept, r .put-front .kept, s .pre))
 
 same-length : tie.Need-same-length
@@ -50,16 +48,14 @@ returns c =
     let q = p .before .before .before .before .before in
     let r = q .before .before .before .before in
     let t = r .before .before .before .before in
-    let f = t .before .before .before in
-    let s = f .before .before .before .before .before in
-    rw (p .put-memory .ensures, q .put-counts .ensures, r .put-state .ensures, t .put-front .ensures, f .code .ensures)
+    let s = t .before .before .before .before .before .before .before in
+    rw (p .put-memory .ensures, q .put-counts .ensures, r .put-state .ensures, t .put-front .ensures)
     (record-over (s .args .snapshot) (s .args .part .now) (sixteen s) (many s) (s .pre))
 
 pub encode-spec : {M : Type 1} → statement M
 encode-spec =
     tie.close
     (tie.spec
-    code-requires
     slice-aggregate-put-front
     put-front-requires
     put-state-requires

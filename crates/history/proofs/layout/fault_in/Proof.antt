@@ -1,6 +1,7 @@
 -- `fault_in` meets its contract. Assumes nothing.
 use mathlib.Core.Path.{_∙_}
-use Rattle.history.specs.Record.{faultOf, faultIn}
+use Rattle.control.specs.Codes.{faultOf}
+use Rattle.history.specs.Record.{faultIn}
 use borrow.Author.Needs.{needs}
 use Rattle.history.proofs.layout.fault_in.Statement.{statement}
 use Rattle.history.proofs.layout.fault_in.Tie as tie

@@ -7,7 +7,7 @@ use lib.Dec.{leb}
 use lib.ListN.{drop}
 use Rattle.encoding.specs.Bytes.{number}
 use Rattle.control.specs.Lawful.{lawful}
-use Rattle.history.specs.Record.{isRecord}
+use Rattle.history.specs.Record.{byteWidth, haltedAt, faultKindAt, isRecord}
 use borrow.Author.Needs.{needs}
 use Rattle.history.proofs.layout.is_record.Statement.{statement}
 use Rattle.history.proofs.layout.is_record.Tie as tie
@@ -19,7 +19,7 @@ returns : tie.Need-returns
 unfolding isRecord
 returns c =
     let l = c .before .before .before .args .part .now in
-    let h : leb (number 1 (drop 41 l)) 1 ≡ false = lt-leb (number 1 (drop 41 l)) 1 (omega (arith, c .before .byte-at .ensures)) in
+    let h : leb (number byteWidth (drop haltedAt l)) 1 ≡ false = lt-leb (number byteWidth (drop haltedAt l)) 1 (omega (arith, c .before .byte-at .ensures)) in
     rw h
 
 byte-at-requires-2 : tie.Need-byte-at-requires-2
@@ -29,8 +29,8 @@ returns-2 : tie.Need-returns-2
 unfolding isRecord
 returns-2 c =
     let l = c .before .before .before .before .before .args .part .now in
-    let h : leb (number 1 (drop 41 l)) 1 ≡ true = le-leb (number 1 (drop 41 l)) 1 (omega (arith, c .before .before .before .byte-at .ensures)) in
-    let k : leb (number 1 (drop 42 l)) 2 ≡ false = lt-leb (number 1 (drop 42 l)) 2 (omega (arith, c .before .byte-at2 .ensures)) in
+    let h : leb (number byteWidth (drop haltedAt l)) 1 ≡ true = le-leb (number byteWidth (drop haltedAt l)) 1 (omega (arith, c .before .before .before .byte-at .ensures)) in
+    let k : leb (number byteWidth (drop faultKindAt l)) 2 ≡ false = lt-leb (number byteWidth (drop faultKindAt l)) 2 (omega (arith, c .before .byte-at2 .ensures)) in
     rw (h, k)
 
 control-in-requires : tie.Need-control-in-requires
@@ -43,8 +43,8 @@ returns-3 : tie.Need-returns-3
 unfolding isRecord
 returns-3 c =
     let l = c .before .before .before .before .before .before .before .args .part .now in
-    let h : leb (number 1 (drop 41 l)) 1 ≡ true = le-leb (number 1 (drop 41 l)) 1 (omega (arith, c .before .before .before .before .before .byte-at .ensures)) in
-    let k : leb (number 1 (drop 42 l)) 2 ≡ true = le-leb (number 1 (drop 42 l)) 2 (omega (arith, c .before .before .before .byte-at2 .ensures)) in
+    let h : leb (number byteWidth (drop haltedAt l)) 1 ≡ true = le-leb (number byteWidth (drop haltedAt l)) 1 (omega (arith, c .before .before .before .before .before .byte-at .ensures)) in
+    let k : leb (number byteWidth (drop faultKindAt l)) 2 ≡ true = le-leb (number byteWidth (drop faultKindAt l)) 2 (omega (arith, c .before .before .before .byte-at2 .ensures)) in
     rw (h, k) (c .is-lawful .ensures ∙ ap lawful (c .before .control-in .ensures))
 
 pub is-record-spec : {M : Type 1} → statement M

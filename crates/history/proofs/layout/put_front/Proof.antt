@@ -6,7 +6,7 @@ use lib.ListN.{length}
 use Rattle.encoding.specs.Bytes.{bigEndian, bigEndians}
 use Rattle.encoding.proofs.Written.{writtens-eq}
 use Rattle.encoding.proofs.Numbers.{length-bigEndian, length-bigEndians}
-use Rattle.history.specs.Record.{frontBytes}
+use Rattle.history.specs.Record.{byteWidth, wordWidth, pcAt, frontBytes}
 use borrow.Author.Needs.{needs}
 use Rattle.history.proofs.layout.put_front.Statement.{statement}
 use Rattle.history.proofs.layout.put_front.Tie as tie
@@ -32,9 +32,9 @@ returns c =
     let s = r .before .before .before .before in
     let a = s .args in
     rw (p .put-words .ensures, q .put-number2 .ensures, r .put-number .ensures)
-    (writtens-eq (a .part .now) 0
-    ((1, bigEndian 1 (a .pc)) ∷ (2, bigEndian 2 (a .ir)) ∷ (2 * length (a .registers .now), bigEndians 2 (a .registers .now)) ∷ [])
-    (length-bigEndian 1 (a .pc), (length-bigEndian 2 (a .ir), (length-bigEndians 2 (a .registers .now), tt)))
+    (writtens-eq (a .part .now) pcAt
+    ((byteWidth, bigEndian byteWidth (a .pc)) ∷ (wordWidth, bigEndian wordWidth (a .ir)) ∷ (wordWidth * length (a .registers .now), bigEndians wordWidth (a .registers .now)) ∷ [])
+    (length-bigEndian byteWidth (a .pc), (length-bigEndian wordWidth (a .ir), (length-bigEndians wordWidth (a .registers .now), tt)))
     (omega (arith, s .pre)))
 
 pub put-front-spec : {M : Type 1} → statement M

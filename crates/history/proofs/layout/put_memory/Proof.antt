@@ -6,7 +6,8 @@ use native.Mathlib.Omega.{arith}
 use Rattle.encoding.specs.Bytes.{bigEndian, bigEndians}
 use Rattle.encoding.proofs.Written.{writtens-eq}
 use Rattle.encoding.proofs.Numbers.{length-bigEndian, length-bigEndians}
-use Rattle.history.specs.Record.{memoryBytes}
+use Rattle.isa.specs.Sizes.{memoryWords}
+use Rattle.history.specs.Record.{wordWidth, paddingWidth, memoryAt, memoryBytes}
 use borrow.Author.Needs.{needs}
 use Rattle.history.proofs.layout.put_memory.Statement.{statement}
 use Rattle.history.proofs.layout.put_memory.Tie as tie
@@ -28,9 +29,9 @@ returns c =
     let s = q .before .before .before .before in
     let m = s .args .memory .now in
     rw (p .put-number .ensures, q .put-words .ensures)
-    (writtens-eq (s .args .part .now) 62
-    ((512, bigEndians 2 m) ∷ (2, bigEndian 2 0) ∷ [])
-    (length-bigEndians 2 m ∙ ap (λ (n : ℕ). 2 * n) (s .pre .0), (length-bigEndian 2 0, tt))
+    (writtens-eq (s .args .part .now) memoryAt
+    ((wordWidth * memoryWords, bigEndians wordWidth m) ∷ (paddingWidth, bigEndian paddingWidth 0) ∷ [])
+    (length-bigEndians wordWidth m ∙ ap (λ (n : ℕ). wordWidth * n) (s .pre .0), (length-bigEndian paddingWidth 0, tt))
     (omega (arith, s .pre .1)))
 
 pub put-memory-spec : {M : Type 1} → statement M

@@ -4,7 +4,8 @@ use native.Mathlib.Omega.{arith}
 use Rattle.encoding.specs.Bytes.{bigEndian}
 use Rattle.encoding.proofs.Written.{writtens-eq}
 use Rattle.encoding.proofs.Numbers.{length-bigEndian}
-use Rattle.history.specs.Record.{bit, stateBytes}
+use Rattle.control.specs.Address.{addressWidth}
+use Rattle.history.specs.Record.{byteWidth, wordWidth, marAt, bit, stateBytes}
 use borrow.Author.Needs.{needs}
 use Rattle.history.proofs.layout.put_state.Statement.{statement}
 use Rattle.history.proofs.layout.put_state.Tie as tie
@@ -68,9 +69,9 @@ returns c =
     let a = s .args in
     let k = a .control in
     rw (p .put-number6 .ensures, p .before .halted-bit .ensures, q .put-number5 .ensures, r .put-number4 .ensures, t .put-number3 .ensures, u .put-number2 .ensures, v .put-number .ensures)
-    (writtens-eq (a .part .now) 35
-    ((1, bigEndian 1 (k .mar)) ∷ (2, bigEndian 2 (k .mdr)) ∷ (1, bigEndian 1 (k .«instruction_address»)) ∷ (1, bigEndian 1 (k .tick)) ∷ (1, bigEndian 1 (k .«execute_ticks»)) ∷ (1, bigEndian 1 (bit (k .halted))) ∷ [])
-    (length-bigEndian 1 (k .mar), (length-bigEndian 2 (k .mdr), (length-bigEndian 1 (k .«instruction_address»), (length-bigEndian 1 (k .tick), (length-bigEndian 1 (k .«execute_ticks»), (length-bigEndian 1 (bit (k .halted)), tt))))))
+    (writtens-eq (a .part .now) marAt
+    ((addressWidth, bigEndian addressWidth (k .mar)) ∷ (wordWidth, bigEndian wordWidth (k .mdr)) ∷ (byteWidth, bigEndian byteWidth (k .«instruction_address»)) ∷ (byteWidth, bigEndian byteWidth (k .tick)) ∷ (byteWidth, bigEndian byteWidth (k .«execute_ticks»)) ∷ (byteWidth, bigEndian byteWidth (bit (k .halted))) ∷ [])
+    (length-bigEndian addressWidth (k .mar), (length-bigEndian wordWidth (k .mdr), (length-bigEndian byteWidth (k .«instruction_address»), (length-bigEndian byteWidth (k .tick), (length-bigEndian byteWidth (k .«execute_ticks»), (length-bigEndian byteWidth (bit (k .halted)), tt))))))
     (omega (arith, s .pre)))
 
 pub put-state-spec : {M : Type 1} → statement M

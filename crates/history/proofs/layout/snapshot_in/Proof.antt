@@ -4,7 +4,8 @@ use lib.Dec.{lit≤}
 use lib.ListN.{replicate}
 use native.Mathlib.Omega.{arith}
 use Rattle.history.proofs.Parts.{number-inside, words-inside}
-use Rattle.history.specs.Record.{snapshotIn}
+use Rattle.isa.specs.Sizes.{memoryWords, registerCount}
+use Rattle.history.specs.Record.{counterWidth, registersAt, instructionsAt, microOperationsAt, memoryAt, snapshotIn}
 use borrow.Author.Needs.{needs}
 use Rattle.history.proofs.layout.snapshot_in.Statement.{statement}
 use Rattle.history.proofs.layout.snapshot_in.Tie as tie
@@ -41,12 +42,12 @@ returns c =
     let s = r .before .before .before in
     let d = s .args .part .now in
     λ i. record {
-      registers = (r .get-words .ensures ∙ words-inside d 3 (replicate 16 0) (omega (arith, s .pre))) i;
-      memory = (m .get-words2 .ensures ∙ words-inside d 62 (replicate 256 0) (omega (arith, s .pre))) i;
+      registers = (r .get-words .ensures ∙ words-inside d registersAt (replicate registerCount 0) (omega (arith, s .pre))) i;
+      memory = (m .get-words2 .ensures ∙ words-inside d memoryAt (replicate memoryWords 0) (omega (arith, s .pre))) i;
       control = c .before .before .before .control-in .ensures i;
       fault = c .before .before .fault-in .ensures i;
-      instructions = (c .before .get-number .ensures ∙ number-inside d 46 8 (lit≤ tt) (omega (arith, s .pre))) i;
-      «micro_operations» = (c .get-number2 .ensures ∙ number-inside d 54 8 (lit≤ tt) (omega (arith, s .pre))) i;
+      instructions = (c .before .get-number .ensures ∙ number-inside d instructionsAt counterWidth (lit≤ tt) (omega (arith, s .pre))) i;
+      «micro_operations» = (c .get-number2 .ensures ∙ number-inside d microOperationsAt counterWidth (lit≤ tt) (omega (arith, s .pre))) i;
     }
 
 pub snapshot-in-spec : {M : Type 1} → statement M

@@ -6,12 +6,13 @@ use Prim.Native.Nat.{ℕ, _+_, _-_, _≤_}
 use native.Mathlib.Omega.{arith}
 use borrow.Author.Needs.{needs}
 use lib.ListN.{length, take, drop, length-set}
+use Rattle.history.specs.Record.{recordLength}
 use Rattle.history.proofs.Parts.{move-turn}
 use Rattle.history.proofs.store.move_down.Statement.{statement}
 use Rattle.history.proofs.store.move_down.Tie as tie
 
 abbrev Inv-loop : tie.InvT-loop
-Inv-loop store₀ n i₀ store i = (i ≤ n) × ((length store ≡ length store₀) × (store ≡ take i (drop 576 store₀) ++ drop i store₀))
+Inv-loop store₀ n i₀ store i = (i ≤ n) × ((length store ≡ length store₀) × (store ≡ take i (drop recordLength store₀) ++ drop i store₀))
 
 abbrev μ-loop : tie.MeasureT-loop
 μ-loop store₀ n i₀ store i = n - i
@@ -38,7 +39,7 @@ loop-again : tie.Need-loop-again Inv-loop μ-loop
 loop-again c =
     let l = c .before .before .loop in
     let a = c .before .before .before .args in
-    (search needs, (simp length-set (l .inv .1 .0), rw (l .inv .1 .1) (move-turn (a .store .now) 576 (l .i) (omega arith))))
+    (search needs, (simp length-set (l .inv .1 .0), rw (l .inv .1 .1) (move-turn (a .store .now) recordLength (l .i) (omega arith))))
 
 same-length : tie.Need-same-length Inv-loop μ-loop
 same-length c = search needs
@@ -48,7 +49,7 @@ returns c =
     let l = c .before .loop in
     let a = c .before .before .args in
     let e : l .i ≡ a .n = omega arith in
-    l .inv .1 .1 ∙ ap (λ (k : ℕ). take k (drop 576 (a .store .now)) ++ drop k (a .store .now)) e
+    l .inv .1 .1 ∙ ap (λ (k : ℕ). take k (drop recordLength (a .store .now)) ++ drop k (a .store .now)) e
 
 pub move-down-spec : {M : Type 1} → statement M
 move-down-spec =

@@ -3,7 +3,8 @@ use mathlib.Core.Path.{ap, _∙_}
 use mathlib.Core.List.{[]}
 use denote.Ref.{now}
 use Rattle.vm.specs.declared.machine.Machine.{Machine as Code}
-use Rattle.vm.specs.Calls.{RunAnswer, runAnswer, runOutcome, viewOf, isMachine}
+use Rattle.vm.specs.Calls.{viewOf, isMachine}
+use Rattle.vm.specs.RunCalls.{RunAnswer, runAnswer, runCall}
 use Rattle.massey_bench.specs.Machine.{start, times, madeBy, ticksOn, runCount}
 use Rattle.massey_bench.proofs.Machines.{start-ok}
 use borrow.Author.Needs.{needs}
@@ -24,7 +25,7 @@ unfolding runCount ticksOn times
 returns c =
     let s = c .before .before .before in
     let a = s .before .before .args in
-    ap (λ (r : RunAnswer). madeBy (r .machine)) (c .before .direct-run .ensures .0 ∙ ap (λ (m : Code). runAnswer (runOutcome (isMachine m) [] (a .budget) (viewOf m))) (s .started .ensures) ∙ (λ i. runAnswer (runOutcome (start-ok (now (a .image)) i) [] (a .budget) (viewOf (start (now (a .image)))))))
+    ap (λ (r : RunAnswer). madeBy (r .machine)) (c .before .direct-run .ensures .0 ∙ ap (λ (m : Code). runAnswer (runCall (isMachine m) [] (a .budget) (viewOf m))) (s .started .ensures) ∙ (λ i. runAnswer (runCall (start-ok (now (a .image)) i) [] (a .budget) (viewOf (start (now (a .image)))))))
 
 pub massey-direct-run-spec : {M : Type 1} → statement M
 massey-direct-run-spec = tie.close (tie.spec started-requires slice-aggregate-direct-run direct-run-requires returns)

@@ -5,8 +5,9 @@ use mathlib.Core.Bool.{true}
 use denote.Ref.{now}
 use Rattle.vm.specs.Machine.{Machine}
 use Rattle.vm.specs.Instruction.{stepInstruction}
-use Rattle.vm.specs.declared.report.InstructionReport.{InstructionReport}
-use Rattle.vm.specs.Calls.{Outcome, viewOf, isMachine}
+use Rattle.vm.specs.declared.step.InstructionReport.{InstructionReport}
+use Rattle.vm.specs.Calls.{viewOf, isMachine}
+use Rattle.vm.specs.StepCalls.{Effect}
 use Rattle.massey_bench.specs.Machine.{times, moving, madeBy, stepsCount}
 use Rattle.massey_bench.proofs.Machines.{start-ok, after-step}
 use Rattle.massey_bench.proofs.Loops.{Going, at-start, turned, at-end}
@@ -44,7 +45,7 @@ loop-again : tie.Need-loop-again Inv-loop μ-loop
 loop-again c =
     let l = c .before .before .before .loop in
     let e = c .before .step-instruction .ensures in
-    (turned move _ _ (c .before .before .loop-test .taken) (l .inv .0) (ap (λ (o : Outcome InstructionReport). o .machine) (e .0) ∙ after-step (l .m) (l .inv .1)), e .1 .1 .1 (l .inv .1))
+    (turned move _ _ (c .before .before .loop-test .taken) (l .inv .0) (ap (λ (o : Effect InstructionReport). o .machine) (e .0) ∙ after-step (l .m) (l .inv .1)), e .1 .1 .1 (l .inv .1))
 
 returns : tie.Need-returns Inv-loop μ-loop
 unfolding stepsCount

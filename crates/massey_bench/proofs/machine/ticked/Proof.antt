@@ -4,7 +4,8 @@ use mathlib.Core.Path.{_≡_, ap, _∙_}
 use mathlib.Core.Bool.{true}
 use denote.Ref.{now}
 use Rattle.vm.specs.Machine.{Machine, microStep}
-use Rattle.vm.specs.Calls.{Outcome, OpAnswer, viewOf, isMachine}
+use Rattle.vm.specs.Calls.{viewOf, isMachine}
+use Rattle.vm.specs.StepCalls.{Effect, OpAnswer}
 use Rattle.massey_bench.specs.Machine.{times, moving, ticksOn}
 use Rattle.massey_bench.proofs.Machines.{start-ok, after-tick}
 use Rattle.massey_bench.proofs.Loops.{Going, at-start, turned, at-end}
@@ -42,7 +43,7 @@ loop-again : tie.Need-loop-again Inv-loop μ-loop
 loop-again c =
     let l = c .before .before .before .loop in
     let e = c .before .micro-step .ensures in
-    (turned move _ _ (c .before .before .loop-test .taken) (l .inv .0) (ap (λ (o : Outcome OpAnswer). o .machine) (e .0) ∙ after-tick (l .m) (l .inv .1)), e .1 .1 .1 (l .inv .1))
+    (turned move _ _ (c .before .before .loop-test .taken) (l .inv .0) (ap (λ (o : Effect OpAnswer). o .machine) (e .0) ∙ after-tick (l .m) (l .inv .1)), e .1 .1 .1 (l .inv .1))
 
 returns : tie.Need-returns Inv-loop μ-loop
 unfolding ticksOn

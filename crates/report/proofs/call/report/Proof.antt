@@ -4,11 +4,11 @@ use mathlib.Core.Path.{_≡_, sym, ap, _∙_}
 use denote.Ref.{now}
 use lib.ListN.{length}
 use Rattle.vm.specs.Guard.{GuardedAnswer, guardedAnswerOf, servedAnswer}
-use Rattle.vm.proofs.Loads.{answer-served, answer-refusal}
+use Rattle.vm.proofs.GuardedStarts.{answer-served, answer-refusal}
 use Rattle.guard.specs.Input.{Input, inputFrom, inputRefusal}
-use Rattle.report.specs.Slots.{endFrom}
-use Rattle.report.proofs.Accepts.{input-accepted}
-use Rattle.report.proofs.Calls.{reportable, call-refused, call-short, call-served}
+use Rattle.secret.specs.Forms.{endFrom}
+use Rattle.secret.proofs.Accepts.{input-accepted}
+use Rattle.secret.proofs.Calls.{reportable, call-refused, call-short, call-served}
 use borrow.Author.Needs.{needs}
 use Rattle.report.proofs.call.report.Statement.{statement}
 use Rattle.report.proofs.call.report.Tie as tie

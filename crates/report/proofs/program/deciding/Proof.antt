@@ -1,9 +1,9 @@
 -- Assumes nothing.
-use mathlib.Core.Path.{_≡_, refl, sym}
+use mathlib.Core.Path.{refl, sym}
 use denote.Ref.{now}
 use lib.Seq.{take-all}
 use borrow.Author.Needs.{needs}
-use Rattle.report.specs.Program.{inputLength}
+use Rattle.secret.specs.Program.{inputLength}
 use Rattle.report.proofs.program.deciding.Statement.{statement}
 use Rattle.report.proofs.program.deciding.Tie as tie
 

@@ -1,7 +1,7 @@
 -- The tests in their order.
 -- Assumes nothing.
 use borrow.Author.Tests.{lt-ltb, le-ltb}
-use Rattle.report.specs.Program.{firstRefusal}
+use Rattle.secret.specs.Program.{firstRefusal}
 use Rattle.report.proofs.program.first_refusal.Statement.{statement}
 use Rattle.report.proofs.program.first_refusal.Tie as tie
 

@@ -1,13 +1,13 @@
 -- `report_bytes` meets its contract: the copy has the bytes that decide.
 -- Assumes nothing.
 use Prim.Native.Nat.{ℕ}
-use mathlib.Core.Path.{_≡_, refl, sym, ap, _∙_}
+use mathlib.Core.Path.{refl, sym, ap, _∙_}
 use mathlib.Core.List.{List}
 use denote.Ref.{now}
 use lib.ListN.{replicate}
 use lib.Seq.{length-take-le}
-use Rattle.report.specs.Program.{inputLength, bytesOutcome}
-use Rattle.report.proofs.Decides.{first-decide, copy-fits, copied}
+use Rattle.secret.specs.Program.{inputLength, bytesOutcome}
+use Rattle.secret.proofs.Decides.{first-decide, copy-fits, copied}
 use borrow.Author.Needs.{needs}
 use Rattle.report.proofs.program.report_bytes.Statement.{statement}
 use Rattle.report.proofs.program.report_bytes.Tie as tie

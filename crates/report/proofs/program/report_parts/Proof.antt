@@ -8,14 +8,13 @@ use borrow.Author.Needs.{needs}
 use borrow.Author.Tests.{eqb-true}
 use denote.Ref.{now}
 use lib.ListN.{length, drop, getD, replicate, length-append}
-use lib.Seq.{length-take-le}
+use lib.Seq.{length-take-le, take-at}
 use Rattle.encoding.specs.Bytes.{numbers}
 use Rattle.encoding.proofs.Numbers.{length-numbers, read-below}
-use Rattle.listing.proofs.Listings.{part-back}
 use Rattle.guard.specs.Input.{Input}
-use Rattle.report.specs.Outcome.{reportOutcome}
-use Rattle.report.specs.Program.{breaksAt, countAt, bytesRefusal}
-use Rattle.report.proofs.Programs.{all-passed, refusal-read, input-read, words-read, bytes-refused, bytes-served}
+use Rattle.secret.specs.Outcome.{reportOutcome}
+use Rattle.secret.specs.Program.{breaksAt, countAt, bytesRefusal}
+use Rattle.secret.proofs.Programs.{all-passed, refusal-read, input-read, words-read, bytes-refused, bytes-served}
 use Rattle.report.proofs.program.report_parts.Statement.{statement}
 use Rattle.report.proofs.program.report_parts.Tie as tie
 
@@ -121,7 +120,7 @@ array-share-prefix-words c =
 slice-aggregate-report : tie.Need-slice-aggregate-report
 slice-aggregate-report c =
     let w = c .before .before in
-    sym (ap length (part-back _ (replicate 256 0) (read w) (read-length w)) ∙ read-length w)
+    sym (ap length (take-at (read w) _ _ (read-length w)) ∙ read-length w)
 
 sub-report : tie.Need-sub-report
 sub-report c = omega arith
@@ -156,7 +155,7 @@ returns-2 c =
     let b = bytes g in
     let out = now (g .before .before .before .args .out) in
     q .report .ensures
-    ∙ ap (λ (i : Input). reportOutcome i out) (input-read b (g .get-number .ensures) (t .before .before .before .get-number2 .ensures) (t .before .before .get-number3 .ensures) (part-back _ (replicate 256 0) (read w) (read-length w) ∙ is-read w) (ends t))
+    ∙ ap (λ (i : Input). reportOutcome i out) (input-read b (g .get-number .ensures) (t .before .before .before .get-number2 .ensures) (t .before .before .get-number3 .ensures) (take-at (read w) _ _ (read-length w) ∙ is-read w) (ends t))
     ∙ bytes-served b out (sym (is-refusal (t .before)) ∙ t .if1 .left)
 
 pub report-parts-spec : {M : Type 1} → statement M

@@ -5,7 +5,7 @@ use native.Mathlib.Omega.{arith}
 use Rattle.encoding.specs.Bytes.{bigEndian}
 use Rattle.encoding.proofs.Written.{writtens-eq}
 use Rattle.encoding.proofs.Numbers.{length-bigEndian}
-use Rattle.report.specs.Report.{countBytes}
+use Rattle.secret.specs.Report.{countBytes}
 use borrow.Author.Needs.{needs}
 use Rattle.report.proofs.records.put_counts.Statement.{statement}
 use Rattle.report.proofs.records.put_counts.Tie as tie

@@ -5,8 +5,10 @@ use mathlib.Core.List.{[], _∷_}
 use native.Mathlib.Omega.{arith}
 use Rattle.marks.specs.Marks.{marked, shown}
 use Rattle.encoding.proofs.Written.{overs-eq}
-use Rattle.report.specs.Report.{controlBytes, countBytes, faultBytes, endRecord}
-use Rattle.report.proofs.Shows.{length-control, length-counts, length-fault}
+use Rattle.control.specs.Codes.{faultBytes}
+use Rattle.secret.specs.Report.{controlBytes, countBytes, endRecord}
+use Rattle.control.proofs.Faults.{length-fault}
+use Rattle.secret.proofs.Shows.{length-control, length-counts}
 use borrow.Author.Needs.{needs}
 use Rattle.report.proofs.records.put_end.Statement.{statement}
 use Rattle.report.proofs.records.put_end.Tie as tie

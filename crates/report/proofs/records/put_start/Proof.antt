@@ -4,8 +4,12 @@ use mathlib.Core.List.{[], _∷_}
 use native.Mathlib.Omega.{arith}
 use Rattle.marks.specs.Marks.{marked}
 use Rattle.encoding.proofs.Written.{overs-eq}
-use Rattle.report.specs.Report.{valueRecord, shownText, startRecord}
-use Rattle.report.proofs.Shows.{length-value, length-shown}
+use Rattle.encoding.proofs.Numbers.{length-bigEndian}
+use Rattle.isa.specs.Sizes.{textWidth}
+use Rattle.control.specs.Address.{addressWidth}
+use Rattle.secret.specs.Widths.{wordLength}
+use Rattle.secret.specs.Report.{addressBytes, valueRecord, shownText, startRecord}
+use Rattle.secret.proofs.Shows.{length-value, length-shown}
 use borrow.Author.Needs.{needs}
 use Rattle.report.proofs.records.put_start.Statement.{statement}
 use Rattle.report.proofs.records.put_start.Tie as tie
@@ -31,8 +35,8 @@ returns c =
     let a = s .args in
     rw (p .put-text .ensures, q .put-value .ensures)
     (overs-eq (a .out .now) (a .at)
-    ((5, valueRecord marked 2 (a .address) (a .mark) (a .word)) ∷ (32, shownText marked (a .mark) (a .word)) ∷ [])
-    (length-value marked 2 (a .address) (a .mark) (a .word), (length-shown marked (a .mark) (a .word), tt))
+    ((wordLength, valueRecord marked 2 (addressBytes (a .address)) (a .mark) (a .word)) ∷ (textWidth, shownText marked (a .mark) (a .word)) ∷ [])
+    (length-value marked 2 (addressBytes (a .address)) (a .mark) (a .word) (length-bigEndian addressWidth (a .address)), (length-shown marked (a .mark) (a .word), tt))
     (omega (arith, s .pre)))
 
 pub put-start-spec : {M : Type 1} → statement M

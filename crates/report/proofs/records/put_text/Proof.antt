@@ -2,7 +2,7 @@
 -- Assumes nothing.
 use mathlib.Core.Path.{sym, _∙_}
 use borrow.Author.Tests.{not-true, not-false}
-use Rattle.report.proofs.Shows.{text-open, text-marked}
+use Rattle.secret.proofs.Shows.{text-open, text-marked}
 use borrow.Author.Needs.{needs}
 use Rattle.report.proofs.records.put_text.Statement.{statement}
 use Rattle.report.proofs.records.put_text.Tie as tie

@@ -6,7 +6,7 @@ use native.Mathlib.Omega.{arith}
 use Rattle.encoding.specs.Bytes.{bigEndian}
 use Rattle.encoding.proofs.Written.{writtens-eq}
 use Rattle.encoding.proofs.Numbers.{length-bigEndian}
-use Rattle.report.specs.Report.{traceBytes}
+use Rattle.secret.specs.Report.{traceBytes}
 use borrow.Author.Needs.{needs}
 use Rattle.report.proofs.records.put_traced.Statement.{statement}
 use Rattle.report.proofs.records.put_traced.Tie as tie

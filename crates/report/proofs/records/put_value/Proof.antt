@@ -1,6 +1,8 @@
--- `put_value` meets its contract.
+-- `put_value` meets its contract: its pieces lie one behind the other.
 -- Assumes nothing.
-use Rattle.report.proofs.Shows.{value-put}
+use mathlib.Core.Path.{refl, _∙_}
+use lib.ListN.{length-set}
+use Rattle.secret.proofs.Shows.{value-put}
 use borrow.Author.Needs.{needs}
 use Rattle.report.proofs.records.put_value.Statement.{statement}
 use Rattle.report.proofs.records.put_value.Tie as tie
@@ -8,11 +10,23 @@ use Rattle.report.proofs.records.put_value.Tie as tie
 shown-value-requires : tie.Need-shown-value-requires
 shown-value-requires c κs = search needs
 
-cast-t11 : tie.Need-cast-t11
-cast-t11 c = search needs
-
 cast-t13 : tie.Need-cast-t13
 cast-t13 c = search needs
+
+cast-t15 : tie.Need-cast-t15
+cast-t15 c = search needs
+
+add-second : tie.Need-add-second
+add-second c = search needs
+
+slice-write-out : tie.Need-slice-write-out
+slice-write-out c = search needs
+
+put-number-requires : tie.Need-put-number-requires
+put-number-requires c κs = search needs
+
+add-put-bytes : tie.Need-add-put-bytes
+add-put-bytes c = search needs
 
 slice-aggregate-put-bytes : tie.Need-slice-aggregate-put-bytes
 slice-aggregate-put-bytes c = search needs
@@ -21,23 +35,33 @@ put-bytes-requires : tie.Need-put-bytes-requires
 put-bytes-requires c κs = search needs
 
 same-length : tie.Need-same-length
-same-length c = search needs
+same-length c =
+    let p = c .before .before in
+    let q = p .before .before .before .before .before in
+    let a = q .before .before .before .before .args in
+    p .put-bytes .kept .0 ∙ q .put-number .kept .0 ∙ length-set (a .out .now) (a .at) (a .kind)
 
 returns : tie.Need-returns
 returns c =
     let p = c .before .before in
-    let v = p .before .before .before in
+    let q = p .before .before .before .before .before in
+    let v = q .before .before in
     let s = v .before .before in
     let a = s .args in
-    value-put (a .out .now) (a .at) (a .kind) (a .index) (a .mark) (a .value) (s .pre) (v .shown-value .ensures) (p .put-bytes .ensures)
+    rw (p .put-bytes .ensures, q .put-number .ensures)
+    (value-put (a .out .now) (a .at) (a .kind) (a .width) (a .index) (a .mark) (a .value) (s .pre) (v .shown-value .ensures) refl)
 
 pub put-value-spec : {M : Type 1} → statement M
 put-value-spec =
     tie.close
     (tie.spec
     shown-value-requires
-    cast-t11
     cast-t13
+    cast-t15
+    add-second
+    slice-write-out
+    put-number-requires
+    add-put-bytes
     slice-aggregate-put-bytes
     put-bytes-requires
     same-length

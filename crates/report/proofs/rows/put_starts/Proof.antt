@@ -11,9 +11,9 @@ use Rattle.encoding.specs.Bytes.{over, eachFrom}
 use Rattle.encoding.proofs.Written.{each-turn, each-done}
 use Rattle.vm.specs.Calls.{imageWords}
 use Rattle.marks.specs.Marks.{marked}
-use Rattle.report.specs.Report.{startRecord, startRecords}
-use Rattle.report.proofs.Accepts.{words-at}
-use Rattle.report.proofs.Shows.{length-start}
+use Rattle.secret.specs.Report.{startRecord, startRecords}
+use Rattle.secret.proofs.Accepts.{words-at}
+use Rattle.secret.proofs.Shows.{length-start}
 use borrow.Author.Needs.{needs}
 use Rattle.report.proofs.rows.put_starts.Statement.{statement}
 use Rattle.report.proofs.rows.put_starts.Tie as tie
@@ -39,9 +39,6 @@ mul-put-start c = search needs
 
 add-put-start : tie.Need-add-put-start Inv-loop μ-loop
 add-put-start c = search needs
-
-cast-put-start : tie.Need-cast-put-start Inv-loop μ-loop
-cast-put-start c = search needs
 
 shared-slice-read-put-start : tie.Need-shared-slice-read-put-start Inv-loop μ-loop
 shared-slice-read-put-start c = search needs
@@ -90,7 +87,6 @@ put-starts-spec =
     word-at-requires
     mul-put-start
     add-put-start
-    cast-put-start
     shared-slice-read-put-start
     put-start-requires
     add-i

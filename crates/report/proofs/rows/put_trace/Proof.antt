@@ -9,8 +9,8 @@ use lib.ListN.{length}
 use denote.Ref.{now}
 use Rattle.encoding.specs.Bytes.{over, eachFrom}
 use Rattle.encoding.proofs.Written.{each-turn, each-done}
-use Rattle.report.specs.Slots.{slotBytes, slotRecords}
-use Rattle.report.proofs.Lengths.{length-slot}
+use Rattle.secret.specs.Forms.{slotBytes, slotRecords}
+use Rattle.secret.proofs.Lengths.{length-slot}
 use Prim.Native.Nat.{_%_}
 use borrow.Author.Needs.{needs}
 use Rattle.report.proofs.rows.put_trace.Statement.{statement}

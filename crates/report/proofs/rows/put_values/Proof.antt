@@ -1,42 +1,68 @@
 -- The invariant: with the records that are left written too, the buffer is what it is to be.
 -- Assumes nothing.
-use Prim.Native.Nat.{ℕ, _+_, _*_, _-_, _≤_}
-use native.Mathlib.Nat.{add-zero, sub-zero}
+use Prim.Native.Nat.{ℕ, _+_, _*_, _-_, _≤_, _<_}
+use native.Mathlib.Nat.{add-zero, sub-zero, mul-zero, mul-le-mul-left}
 use native.Mathlib.Omega.{arith}
 use mathlib.Core.Path.{_≡_, refl, sym, _∙_}
 use mathlib.Core.List.{List}
 use lib.ListN.{length, getD}
 use denote.Ref.{now}
-use Rattle.encoding.specs.Bytes.{over, eachFrom}
+use Rattle.encoding.specs.Bytes.{over, bigEndian, eachFrom}
 use Rattle.encoding.proofs.Written.{each-turn, each-done}
 use Rattle.marks.specs.Marks.{marked}
-use Rattle.report.specs.Report.{valueRecord, valueRecords}
-use Rattle.report.proofs.Shows.{length-value}
+use Rattle.encoding.proofs.Numbers.{length-bigEndian}
+use Rattle.secret.specs.Widths.{valueLength}
+use Rattle.secret.specs.Report.{valueRecord, valueRecords}
+use Rattle.secret.proofs.Shows.{length-value}
 use borrow.Author.Needs.{needs}
 use Rattle.report.proofs.rows.put_values.Statement.{statement}
 use Rattle.report.proofs.rows.put_values.Tie as tie
 
-abbrev piece : ℕ → List ℕ → List ℕ → ℕ → List ℕ
-piece kind values marks i = valueRecord marked kind i (getD marks i 0) (getD values i 0)
+abbrev piece : ℕ → ℕ → List ℕ → List ℕ → ℕ → List ℕ
+piece kind width values marks i = valueRecord marked kind (bigEndian width i) (getD marks i 0) (getD values i 0)
+
+-- so much room is left before turn i
+room : (w at len : ℕ) {i n : ℕ} → i < n → at + w * n ≤ len → at + w * i + w ≤ len
+room w at len {i} h k = let m = mul-le-mul-left w h in omega arith
 
 abbrev Inv-loop : tie.InvT-loop
-Inv-loop out₀ at kind values marks i₀ out i =
-    (i ≤ length values) × (length out ≡ length out₀) × (over out (at + 5 * i) (eachFrom (piece kind values marks) i (length values - i)) ≡ over out₀ at (eachFrom (piece kind values marks) 0 (length values)))
+Inv-loop out₀ at kind width values marks size i₀ out i =
+    (i ≤ length values) × (length out ≡ length out₀)
+    × (over out (at + valueLength width * i) (eachFrom (piece kind width values marks) i (length values - i)) ≡ over out₀ at (eachFrom (piece kind width values marks) 0 (length values)))
 
 abbrev μ-loop : tie.MeasureT-loop
-μ-loop out₀ at kind values marks i₀ out i = length values - i
+μ-loop out₀ at kind width values marks size i₀ out i = length values - i
+
+long : (c : tie.Start Inv-loop μ-loop) → length (now (c .args .out)) < 18446744073709551616
+long c = search needs
+
+-- the same from the function's start
+left : (s : tie.Start Inv-loop μ-loop) {i : ℕ} → i < length (now (s .args .values)) → s .args .at + valueLength (s .args .width) * i + valueLength (s .args .width) ≤ length (now (s .args .out))
+left s h = room (valueLength (s .args .width)) (s .args .at) (length (now (s .args .out))) h (s .pre .0)
+
+add-size : tie.Need-add-size Inv-loop μ-loop
+add-size c = search needs
+
+add-size-2 : tie.Need-add-size-2 Inv-loop μ-loop
+add-size-2 c = search needs
+
+add-size-3 : tie.Need-add-size-3 Inv-loop μ-loop
+add-size-3 c = search needs
 
 loop-holds : tie.Need-loop-holds Inv-loop μ-loop
-loop-holds c = (search needs, refl, rw (add-zero, sub-zero))
+loop-holds c = (search needs, refl, rw (mul-zero, add-zero, sub-zero))
 
 mul-put-value : tie.Need-mul-put-value Inv-loop μ-loop
-mul-put-value c = search needs
+mul-put-value c =
+    let s = c .before .before .before .before .before .before in
+    let r = left s {i = c .before .before .loop .i} (omega arith) in
+    omega (arith, r, long s)
 
 add-put-value : tie.Need-add-put-value Inv-loop μ-loop
-add-put-value c = search needs
-
-cast-put-value : tie.Need-cast-put-value Inv-loop μ-loop
-cast-put-value c = search needs
+add-put-value c =
+    let s = c .before .before .before .before .before .before in
+    let r = left s {i = c .before .before .loop .i} (omega arith) in
+    omega (arith, r, long s)
 
 shared-slice-read-put-value : tie.Need-shared-slice-read-put-value Inv-loop μ-loop
 shared-slice-read-put-value c = search needs
@@ -48,7 +74,11 @@ shared-slice-read-put-value-2 : tie.Need-shared-slice-read-put-value-2 Inv-loop 
 shared-slice-read-put-value-2 c = search needs
 
 put-value-requires : tie.Need-put-value-requires Inv-loop μ-loop
-put-value-requires c κs = search needs
+put-value-requires c κs =
+    let s = c .before .before .before .before .before .before .before .before in
+    let l = c .before .before .before .before .loop in
+    let r = left s {i = l .i} (omega arith) in
+    omega (arith, r, l .inv .1)
 
 add-i : tie.Need-add-i Inv-loop μ-loop
 add-i c = search needs
@@ -66,7 +96,8 @@ loop-again c =
     let m = now (s .marks) in (
       omega arith,
       p .put-value .kept .0 ∙ l .inv .1,
-      rw (p .put-value .ensures) (each-turn 5 (piece (s .kind) v m) (l .out) (s .at) (l .i) (length v) (length-value marked (s .kind) (l .i) (getD m (l .i) 0) (getD v (l .i) 0)) (omega arith) (omega arith) ∙ l .inv .2),
+      rw (p .put-value .ensures) (each-turn (valueLength (s .width)) (piece (s .kind) (s .width) v m) (l .out) (s .at) (l .i) (length v)
+          (length-value marked (s .kind) (bigEndian (s .width) (l .i)) (getD m (l .i) 0) (getD v (l .i) 0) (length-bigEndian (s .width) (l .i))) (omega arith) (omega arith) ∙ l .inv .2),
     )
 
 same-length : tie.Need-same-length Inv-loop μ-loop
@@ -78,7 +109,7 @@ returns c =
     let l = c .before .loop in
     let s = c .before .before .before .before .before .args in
     let v = now (s .values) in
-    sym (each-done (piece (s .kind) v (now (s .marks))) (l .out) (s .at + 5 * l .i) (l .i) (length v) (omega arith)) ∙ l .inv .2
+    sym (each-done (piece (s .kind) (s .width) v (now (s .marks))) (l .out) (s .at + valueLength (s .width) * l .i) (l .i) (length v) (omega arith)) ∙ l .inv .2
 
 pub put-values-spec : {M : Type 1} → statement M
 put-values-spec =
@@ -86,10 +117,12 @@ put-values-spec =
     (tie.spec
     Inv-loop
     μ-loop
+    add-size
+    add-size-2
+    add-size-3
     loop-holds
     mul-put-value
     add-put-value
-    cast-put-value
     shared-slice-read-put-value
     mul-put-value-2
     shared-slice-read-put-value-2

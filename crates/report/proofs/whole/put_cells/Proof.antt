@@ -5,8 +5,11 @@ use native.Mathlib.Omega.{arith}
 use denote.Ref.{now}
 use Rattle.marks.specs.Marks.{marked}
 use Rattle.encoding.proofs.Written.{overs-eq}
-use Rattle.report.specs.Report.{valueRecords}
-use Rattle.report.proofs.Lengths.{length-values}
+use Rattle.isa.specs.Sizes.{memoryWords, registerCount}
+use Rattle.control.specs.Address.{addressWidth}
+use Rattle.secret.specs.Widths.{indexWidth, registersLength, wordsLength}
+use Rattle.secret.specs.Report.{indexBytes, addressBytes, valueRecords}
+use Rattle.secret.proofs.Lengths.{length-values}
 use borrow.Author.Needs.{needs}
 use Rattle.report.proofs.whole.put_cells.Statement.{statement}
 use Rattle.report.proofs.whole.put_cells.Tie as tie
@@ -35,8 +38,8 @@ returns c =
     let l = now (a .memory-marks) in
     rw (p .put-values2 .ensures, q .put-values .ensures, s .pre .1, s .pre .3)
     (overs-eq (now (a .out)) (a .at)
-    ((80, valueRecords marked 5 16 r k) ∷ (1280, valueRecords marked 6 256 m l) ∷ [])
-    (length-values marked 5 16 r k, (length-values marked 6 256 m l, tt))
+    ((registersLength, valueRecords marked 5 indexBytes registerCount r k) ∷ (wordsLength, valueRecords marked 6 addressBytes memoryWords m l) ∷ [])
+    (length-values marked 5 indexWidth registerCount r k, (length-values marked 6 addressWidth memoryWords m l, tt))
     (omega (arith, s .pre)))
 
 pub put-cells-spec : {M : Type 1} → statement M

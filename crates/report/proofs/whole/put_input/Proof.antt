@@ -8,9 +8,10 @@ use lib.ListN.{length}
 use Rattle.vm.specs.Calls.{imageWords}
 use Rattle.marks.specs.Marks.{marked}
 use Rattle.encoding.proofs.Written.{overs-eq}
-use Rattle.report.specs.Report.{headRecord, startRecords, byteRecords}
-use Rattle.report.proofs.Shows.{length-head}
-use Rattle.report.proofs.Lengths.{length-starts, length-bytes}
+use Rattle.secret.specs.Widths.{headLength, breakLength, startsLength}
+use Rattle.secret.specs.Report.{headRecord, startRecords, breakRecord, eachRecord}
+use Rattle.secret.proofs.Shows.{length-head}
+use Rattle.secret.proofs.Lengths.{length-starts, length-breaks}
 use borrow.Author.Needs.{needs}
 use Rattle.report.proofs.whole.put_input.Statement.{statement}
 use Rattle.report.proofs.whole.put_input.Tie as tie
@@ -21,8 +22,8 @@ put-head-requires c κs = search needs
 put-starts-requires : tie.Need-put-starts-requires
 put-starts-requires c κs = search needs
 
-put-list-requires : tie.Need-put-list-requires
-put-list-requires c κs = search needs
+put-breaks-requires : tie.Need-put-breaks-requires
+put-breaks-requires c κs = search needs
 
 same-length : tie.Need-same-length
 same-length c = search needs
@@ -36,13 +37,13 @@ returns c =
     let a = s .args in
     let image = now (a .image) in
     let breaks = now (a .breakpoints) in
-    rw (p .put-list .ensures, q .put-starts .ensures, r .put-head .ensures)
+    rw (p .put-breaks .ensures, q .put-starts .ensures, r .put-head .ensures)
     (overs-eq (now (a .out)) 0
-    ((13, headRecord (length image) (a .budget .0) (length breaks)) ∷ (9472, startRecords marked (imageWords image) (now (a .marks))) ∷ (2 * length breaks, byteRecords 3 breaks) ∷ [])
-    (length-head (length image) (a .budget .0) (length breaks), (length-starts marked (imageWords image) (now (a .marks)), (length-bytes 3 breaks, tt)))
+    ((headLength, headRecord (length image) (a .budget .0) (length breaks)) ∷ (startsLength, startRecords marked (imageWords image) (now (a .marks))) ∷ (breakLength * length breaks, eachRecord breakRecord breaks) ∷ [])
+    (length-head (length image) (a .budget .0) (length breaks), (length-starts marked (imageWords image) (now (a .marks)), (length-breaks breaks, tt)))
     (omega (arith, s .pre)))
 
 pub put-input-spec : {M : Type 1} → statement M
 put-input-spec =
     tie.close
-    (tie.spec put-head-requires put-starts-requires put-list-requires same-length returns)
+    (tie.spec put-head-requires put-starts-requires put-breaks-requires same-length returns)

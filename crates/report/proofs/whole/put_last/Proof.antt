@@ -7,14 +7,15 @@ use denote.Ref.{now}
 use lib.ListN.{length}
 use Rattle.marks.specs.Marks.{marked}
 use Rattle.encoding.proofs.Written.{overs-eq}
-use Rattle.report.specs.Report.{byteRecords, endRecord}
-use Rattle.report.proofs.Lengths.{length-bytes, length-end}
+use Rattle.secret.specs.Widths.{touchedLength, endLength}
+use Rattle.secret.specs.Report.{touchedRecord, eachRecord, endRecord}
+use Rattle.secret.proofs.Lengths.{length-touches, length-end}
 use borrow.Author.Needs.{needs}
 use Rattle.report.proofs.whole.put_last.Statement.{statement}
 use Rattle.report.proofs.whole.put_last.Tie as tie
 
-put-list-requires : tie.Need-put-list-requires
-put-list-requires c κs = search needs
+put-touches-requires : tie.Need-put-touches-requires
+put-touches-requires c κs = search needs
 
 mul-put-end : tie.Need-mul-put-end
 mul-put-end c = search needs
@@ -35,13 +36,13 @@ returns c =
     let s = q .before .before .before .before in
     let a = s .args in
     let t = now (a .touched) in
-    rw (p .put-end .ensures, q .put-list .ensures)
+    rw (p .put-end .ensures, q .put-touches .ensures)
     (overs-eq (now (a .out)) (a .at)
-    ((2 * length t, byteRecords 7 t) ∷ (45, endRecord marked (a .stop) (a .state) (a .counters) (a .mark)) ∷ [])
-    (length-bytes 7 t, (length-end marked (a .stop) (a .state) (a .counters) (a .mark), tt))
+    ((touchedLength * length t, eachRecord touchedRecord t) ∷ (endLength, endRecord marked (a .stop) (a .state) (a .counters) (a .mark)) ∷ [])
+    (length-touches t, (length-end marked (a .stop) (a .state) (a .counters) (a .mark), tt))
     (omega (arith, s .pre)))
 
 pub put-last-spec : {M : Type 1} → statement M
 put-last-spec =
     tie.close
-    (tie.spec put-list-requires mul-put-end add-put-end put-end-requires same-length returns)
+    (tie.spec put-touches-requires mul-put-end add-put-end put-end-requires same-length returns)

@@ -7,7 +7,7 @@ use denote.Ref.{now}
 use lib.ListN.{length, take}
 use lib.Seq.{length-take-le}
 use Rattle.trace.specs.Trace.{columnsLength}
-use Rattle.report.proofs.Traces.{run-over}
+use Rattle.secret.proofs.Traces.{run-over}
 use borrow.Author.Needs.{needs}
 use Rattle.report.proofs.whole.put_run.Statement.{statement}
 use Rattle.report.proofs.whole.put_run.Tie as tie

@@ -6,7 +6,7 @@ use denote.Ref.{now}
 use lib.ListN.{length}
 use Rattle.guard.specs.Input.{inputFrom}
 use Rattle.trace.specs.Trace.{columnsLength}
-use Rattle.report.proofs.Wholes.{whole-served}
+use Rattle.secret.proofs.Wholes.{whole-served}
 use borrow.Author.Needs.{needs}
 use Rattle.report.proofs.whole.write_report.Statement.{statement}
 use Rattle.report.proofs.whole.write_report.Tie as tie

@@ -1,11 +1,8 @@
 use Rattle.control.specs.declared.control.RegisterWrite.{RegisterWrite}
-use Rattle.trace.specs.Cells.{registersBy}
-use Prim.Native.Nat.{_-_}
-use native.Mathlib.Omega.{arith}
+use Rattle.trace.specs.Forms.{registersBy}
 use mathlib.Core.Path.{ap, sym}
 use borrow.Author.Needs.{needs}
 use denote.Ref.{now}
-use borrow.Author.Needs.{needs}
 use Rattle.trace.proofs.cells.set_register.Statement.{statement}
 use Rattle.trace.proofs.cells.set_register.Tie as tie
 

@@ -1,10 +1,11 @@
 use Rattle.control.specs.declared.control.BusTransfer.{BusTransfer}
 use Rattle.trace.specs.Cells.{memoryAfter}
-use Prim.Native.Nat.{_-_}
+use mir.Val.{Fits}
+use mir.Syntax.{w8}
 use mathlib.Core.Path.{ap, sym}
 use borrow.Author.Needs.{needs}
 use denote.Ref.{now}
-use borrow.Author.Needs.{needs}
+use Rattle.control.proofs.Addresses.{of-memory}
 use Rattle.trace.proofs.cells.set_word.Statement.{statement}
 use Rattle.trace.proofs.cells.set_word.Tie as tie
 
@@ -23,8 +24,12 @@ cast-i c = search needs
 mul-memory : tie.Need-mul-memory
 mul-memory c = search needs
 
+-- the address as the type holds it
+address : (c : tie.After-known-told) → Fits w8 (c .before .b .given .0 .0)
+address c = search needs
+
 element-write-memory : tie.Need-element-write-memory
-element-write-memory c = search needs
+element-write-memory c = of-memory (address c)
 
 returns : tie.Need-returns
 returns c = search needs

@@ -1,12 +1,13 @@
 -- Assumes nothing.
-use Prim.Native.Nat.{ℕ, _+_, _-_, _≤_, _<_}
+use Prim.Native.Nat.{_+_, _-_, _≤_, _<_}
 use native.Mathlib.Omega.{arith}
 use mathlib.Core.Path.{_≡_, refl, ap, sym, _∙_}
 use borrow.Author.Needs.{needs}
 use denote.Ref.{now}
 use Rattle.control.specs.Count.{more}
-use Rattle.trace.specs.Trace.{arraysOf, pushInto}
-use Rattle.trace.specs.Lines.{lines, loggedIn}
+use Rattle.trace.specs.Trace.{arraysOf}
+use Rattle.trace.specs.Lines.{lines}
+use Rattle.trace.specs.Forms.{pushInto, loggedIn}
 use Rattle.trace.proofs.Logs.{line-none, line-next, line-end, more-next}
 use Rattle.trace.proofs.lines.push_lines.Statement.{statement}
 use Rattle.trace.proofs.lines.push_lines.Tie as tie

@@ -1,6 +1,6 @@
 use borrow.Author.Needs.{needs}
 use borrow.Author.Tests.{lt-ltb, le-ltb}
-use Rattle.trace.specs.Trace.{nextRing}
+use Rattle.trace.specs.Forms.{nextRing}
 use Rattle.trace.proofs.records.next_ring.Statement.{statement}
 use Rattle.trace.proofs.records.next_ring.Tie as tie
 

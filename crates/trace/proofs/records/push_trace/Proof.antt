@@ -2,7 +2,8 @@ use Prim.Native.Nat.{_+_}
 use denote.Ref.{now}
 use borrow.Author.Needs.{needs}
 use lib.ListN.{set}
-use Rattle.trace.specs.Trace.{arraysOf, slotOf, putColumns, pushInto}
+use Rattle.trace.specs.Trace.{arraysOf, addressesAt, phasesAt}
+use Rattle.trace.specs.Forms.{slotOf, putColumns, pushInto}
 use Rattle.trace.proofs.records.push_trace.Statement.{statement}
 use Rattle.trace.proofs.records.push_trace.Tie as tie
 
@@ -41,7 +42,7 @@ unfolding pushInto putColumns
 returns c =
     let a = c .before .before .before .before .before .args in
     let k = slotOf (a .ring) in
-    λ i. arraysOf (c .next-ring .ensures i) (set (set (c .before .put-text .ensures i) (16384 + k) (a .address)) (16896 + k) (a .phase)) (set (now (a .numbers)) k (a .number)) (set (now (a .lengths)) k (a .text .len))
+    λ i. arraysOf (c .next-ring .ensures i) (set (set (c .before .put-text .ensures i) (addressesAt + k) (a .address)) (phasesAt + k) (a .phase)) (set (now (a .numbers)) k (a .number)) (set (now (a .lengths)) k (a .text .len))
 
 pub push-trace-spec : {M : Type 1} → statement M
 push-trace-spec =

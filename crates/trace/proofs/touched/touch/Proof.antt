@@ -2,7 +2,7 @@ use mathlib.Core.Path.{ap, sym, _∙_}
 use borrow.Author.Needs.{needs}
 use denote.Ref.{now}
 use Rattle.control.specs.declared.control.BusTransfer.{BusTransfer}
-use Rattle.trace.specs.Touched.{placesOf, touchIn}
+use Rattle.trace.specs.Forms.{placesOf, touchIn}
 use Rattle.trace.proofs.touched.touch.Statement.{statement}
 use Rattle.trace.proofs.touched.touch.Tie as tie
 

@@ -1,7 +1,7 @@
 use mathlib.Core.Path.{sym, _∙_}
 use borrow.Author.Needs.{needs}
 use borrow.Author.Tests.{lt-ltb, le-ltb}
-use Rattle.trace.specs.Touched.{noteIn}
+use Rattle.trace.specs.Forms.{noteIn}
 use Rattle.trace.proofs.touched.touch_at.Statement.{statement}
 use Rattle.trace.proofs.touched.touch_at.Tie as tie
 

@@ -6,7 +6,7 @@ use Rattle.guard.specs.Stops.{stopNumber}
 use Rattle.guard.specs.Input.{Input, inputFrom}
 use Rattle.vm.specs.Calls.{partsOf}
 use Rattle.vm.proofs.Fits.{lasts}
-use Rattle.vm.proofs.Loads.{load-fit, load-ok, load-rest, load-run}
+use Rattle.vm.proofs.GuardedStarts.{load-fit, load-ok, load-rest, load-run}
 use borrow.Author.Needs.{needs}
 use Rattle.vm.proofs.guarded.accepted_run.Statement.{statement}
 use Rattle.vm.proofs.guarded.accepted_run.Tie as tie

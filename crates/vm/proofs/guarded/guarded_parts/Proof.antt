@@ -2,14 +2,17 @@
 -- Assumes nothing.
 use Prim.Native.Nat.{ℕ, _≤_, _<_, _-_, _+_}
 use native.Mathlib.Omega.{arith}
-use mathlib.Core.Path.{_≡_, refl, ap, sym, _∙_}
+use mathlib.Core.Path.{_≡_, ap, sym, _∙_}
 use borrow.Author.Needs.{needs}
 use denote.Ref.{now}
-use Rattle.guard.specs.Stops.{stop, go, verdictOf}
+use Rattle.guard.specs.Stops.{stop, go, stopNumber}
+use Rattle.guard.specs.Forms.{verdictOf}
 use Rattle.marks.specs.Marks.{marked, instructionMarks}
-use Rattle.vm.specs.View.{parts, view, Fit}
-use Rattle.vm.specs.Guard.{guard, guardedRun, guardedOn}
-use Rattle.vm.proofs.Guards.{going, guard-stops, guard-goes, closed-view, closed-fit}
+use Rattle.vm.specs.View.{parts, view}
+use Rattle.vm.specs.Guard.{guard, guardedRun}
+use Rattle.vm.specs.Forms.{Fit, closedCore, guardedOn}
+use Rattle.vm.proofs.Runs.{closed-fit}
+use Rattle.vm.proofs.Guards.{going, guard-stops, guard-goes}
 use Rattle.vm.proofs.guarded.guarded_parts.Statement.{statement}
 use Rattle.vm.proofs.guarded.guarded_parts.Tie as tie
 
@@ -48,26 +51,28 @@ judge-requires c κs = search needs
 enum-known-verdict : tie.Need-enum-known-verdict Inv-loop μ-loop
 enum-known-verdict c = search needs
 
+number-requires : tie.Need-number-requires Inv-loop μ-loop
+number-requires c κs = search needs
+
 closed-core-requires : tie.Need-closed-core-requires Inv-loop μ-loop
 closed-core-requires c κs = search needs
 
 returns : tie.Need-returns Inv-loop μ-loop
 returns c =
-    let a = c .before .before .before .before .before .before .before .before .before .before .before .before .args in
-    let l = c .before .before .before .before .before .before .before .before .before .before .loop in
+    let a = c .before .before .before .before .before .before .before .before .before .before .before .before .before .args in
+    let l = c .before .before .before .before .before .before .before .before .before .before .before .loop in
     let q = (parts (l .s) (l .memory) (l .registers) (l .touched) (l .columns) (l .numbers) (l .lengths)) in
     let g = (guardedOn (parts (l .s) (l .memory) (l .registers) (l .touched) (l .columns) (l .numbers) (l .lengths)) (l .marks) (l .register-marks) (l .mdr)) in
     let b = now (a .breakpoints) in
     let n = a .budget .0 - l .begun in
-    let v = c .before .before .verdict .given in
+    let v = c .before .before .before .verdict .given in
     let x = v .0 .0 in
-    let e : guard marked b (l .begun) n g ≡ stop x = sym (c .before .before .before .before .judge .ensures) ∙ ap verdictOf (v .1) in
-    let z = c .closed-core .ensures in (
+    let e : guard marked b (l .begun) n g ≡ stop x = sym (c .before .before .before .before .before .judge .ensures) ∙ ap verdictOf (v .1) in
+    let z = c .closed-core .ensures ∙ ap (λ (j : ℕ). closedCore j (l .s)) (c .before .number .ensures) in (
       (λ i. record { stop = x; executed = l .begun; guarded = record { machine = view (parts (z i) (l .memory) (l .registers) (l .touched) (l .columns) (l .numbers) (l .lengths)); marks = g .marks } })
-          ∙ (λ i. record { stop = x; executed = l .begun; guarded = record { machine = closed-view x q i; marks = g .marks } })
           ∙ sym (guard-stops marked b (l .begun) n g x e)
           ∙ l .inv .0,
-      rw z (closed-fit x q (l .inv .3)),
+      rw z (closed-fit (stopNumber x) q (l .inv .3)),
     )
 
 enum-told : tie.Need-enum-told Inv-loop μ-loop
@@ -140,6 +145,7 @@ guarded-parts-spec =
     element-copy-out-mark
     judge-requires
     enum-known-verdict
+    number-requires
     closed-core-requires
     returns
     enum-told

@@ -6,7 +6,7 @@ use Rattle.guard.specs.Input.{Input, inputFrom}
 use Rattle.vm.specs.declared.guarded.GuardedRun.{GuardedRun}
 use Rattle.vm.specs.Calls.{isMachine}
 use Rattle.vm.specs.Guard.{GuardedAnswer, guardedAnswerOf, refusedRun}
-use Rattle.vm.proofs.Loads.{answer-served, answer-refused, refused-ok, refused-number}
+use Rattle.vm.proofs.GuardedStarts.{answer-served, answer-refused, refused-ok, refused-number}
 use borrow.Author.Needs.{needs}
 use Rattle.vm.proofs.guarded.guarded_run.Statement.{statement}
 use Rattle.vm.proofs.guarded.guarded_run.Tie as tie

@@ -4,8 +4,9 @@ use mathlib.Core.Path.{_≡_, refl, sym, _∙_}
 use mathlib.Core.Bool.{false}
 use borrow.Author.Needs.{needs}
 use Rattle.vm.specs.Instruction.{nothing, steps}
-use Rattle.vm.specs.View.{parts, view, Fit}
-use Rattle.vm.proofs.Turns.{at, go-on, ended, spent}
+use Rattle.vm.specs.View.{parts, view}
+use Rattle.vm.specs.Forms.{Fit}
+use Rattle.vm.proofs.TickTurns.{at, go-on, ended, spent}
 use Rattle.vm.proofs.instruction.instruction_parts.Statement.{statement}
 use Rattle.vm.proofs.instruction.instruction_parts.Tie as tie
 

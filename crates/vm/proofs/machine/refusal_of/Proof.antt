@@ -7,18 +7,21 @@ use borrow.Author.Needs.{needs}
 use lib.ListN.{length, getD}
 use mir.Val.{Fits}
 use mir.Syntax.{w8}
+use Rattle.isa.specs.Sizes.{memoryWords}
+use Rattle.trace.specs.Trace.{traceLimit}
 use Rattle.vm.specs.declared.machine.Machine.{Machine as Code}
-use Rattle.vm.specs.declared.transfer.Core.{Core}
+use Rattle.vm.specs.declared.parts.Core.{Core}
 use Rattle.vm.specs.Refusal.{partsOk, refusal}
 use Rattle.vm.specs.Calls.{coreOf, refusalOf}
+use Rattle.control.proofs.Addresses.{of-memory}
 use Rattle.vm.proofs.machine.refusal_of.Statement.{statement}
 use Rattle.vm.proofs.machine.refusal_of.Tie as tie
 
 -- what owning the machine tells of its arrays
 record Sizes (m : Code) : Type 0 where
-  touched : length (m .touched) ≡ 256
+  touched : length (m .touched) ≡ memoryWords
   bytes : (i : ℕ) → Fits w8 (getD (m .touched) i 0)
-  lengths : length (m .lengths) ≡ 512
+  lengths : length (m .lengths) ≡ traceLimit
 
 sizes : (c : tie.Start) → Sizes (c .args .m)
 sizes c = record { touched = search needs; bytes = λ i. search needs; lengths = search needs }
@@ -31,7 +34,7 @@ core-of-requires : tie.Need-core-of-requires
 core-of-requires c κs = search needs
 
 parts-ok-requires : tie.Need-parts-ok-requires
-parts-ok-requires c κs = let z = sizes (c .before .before .before .before .before) in (z .touched, z .lengths, λ i. z .bytes i .fits)
+parts-ok-requires c κs = let z = sizes (c .before .before .before .before .before) in (z .touched, z .lengths, λ i. of-memory (z .bytes i))
 
 returns : tie.Need-returns
 returns c = by (c .before .before .before .before .before .before .before .args .m) (c .before .before .before .before .before .before .core-of .ensures) (c .before .parts-ok .ensures) (c .if1 .taken)

@@ -4,7 +4,7 @@ use denote.Ref.{now}
 use Rattle.vm.specs.Machine.{microStep}
 use Rattle.vm.specs.Instruction.{Steps}
 use Rattle.vm.specs.View.{parts, view}
-use Rattle.vm.specs.Calls.{noOp, haltedOp, microOp, microOutcome}
+use Rattle.vm.specs.StepCalls.{noOp, haltedOp, microOp, microEffect}
 use Rattle.vm.proofs.Newest.{one-step}
 use Rattle.vm.proofs.Fits.{fit, lasts, has-one, first-text, made-op, served-ok, refuses, stays, moves}
 use borrow.Author.Needs.{needs}
@@ -21,14 +21,14 @@ no-op-requires : tie.Need-no-op-requires
 no-op-requires c κs = search needs
 
 returns : tie.Need-returns
-unfolding microOutcome
+unfolding microEffect
 returns c =
     let a = (c .before .before .before .before .before .before .before) .args in
     let v = view (parts (a .core) (now (a .memory)) (now (a .registers)) (now (a .touched)) (now (a .columns)) (now (a .numbers)) (now (a .lengths))) in
     (refuses _ _ (v .state .control .halted) _ noOp (haltedOp (v .state)) (microOp v) v (microStep v) ((c .before .before) .step-refusal .ensures) (c .before .if1 .taken) (c .no-op .ensures), λ _. refl, λ t. t)
 
 returns-2 : tie.Need-returns-2
-unfolding microOutcome
+unfolding microEffect
 returns-2 c =
     let a = (c .before .before .before .before .before .before .before) .args in
     let v = view (parts (a .core) (now (a .memory)) (now (a .registers)) (now (a .touched)) (now (a .columns)) (now (a .numbers)) (now (a .lengths))) in
@@ -55,7 +55,7 @@ op-after-requires : tie.Need-op-after-requires
 op-after-requires c κs = search needs
 
 returns-3 : tie.Need-returns-3
-unfolding microOutcome
+unfolding microEffect
 returns-3 c =
     let s = (c .before .before .before .before .before .before .before .before .before .before .before .before .before .before .before .before .before .before .before .before .before) in
     let a = s .args in

@@ -5,10 +5,12 @@ use native.Mathlib.Omega.{arith}
 use mathlib.Core.Path.{_≡_, refl, ap, sym, _∙_}
 use denote.Ref.{now}
 use borrow.Author.Needs.{needs}
-use Rattle.guard.specs.Stops.{stop, go, runVerdictOf}
-use Rattle.vm.specs.Run.{verdict, run}
-use Rattle.vm.specs.View.{parts, view, Fit, stoppedParts}
-use Rattle.vm.proofs.Runs.{run-stops, run-goes, running, stopped-view, stopped-fit}
+use Rattle.guard.specs.Stops.{stop, go}
+use Rattle.guard.specs.Forms.{runVerdictOf}
+use Rattle.vm.specs.Run.{verdict, runNumber, run}
+use Rattle.vm.specs.View.{parts, view}
+use Rattle.vm.specs.Forms.{Fit, closedCore, closedParts}
+use Rattle.vm.proofs.Runs.{run-stops, run-goes, running, closed-fit}
 use Rattle.vm.proofs.run.run_parts.Statement.{statement}
 use Rattle.vm.proofs.run.run_parts.Tie as tie
 
@@ -35,26 +37,28 @@ run-verdict-requires c κs = search needs
 enum-known-verdict : tie.Need-enum-known-verdict Inv-loop μ-loop
 enum-known-verdict c = search needs
 
-stopped-core-requires : tie.Need-stopped-core-requires Inv-loop μ-loop
-stopped-core-requires c κs = search needs
+number-requires : tie.Need-number-requires Inv-loop μ-loop
+number-requires c κs = search needs
+
+closed-core-requires : tie.Need-closed-core-requires Inv-loop μ-loop
+closed-core-requires c κs = search needs
 
 returns : tie.Need-returns Inv-loop μ-loop
 returns c =
-    let a = c .before .before .before .before .before .before .before .before .before .args in
-    let l = c .before .before .before .before .before .before .before .loop in
+    let a = c .before .before .before .before .before .before .before .before .before .before .args in
+    let l = c .before .before .before .before .before .before .before .before .loop in
     let q = (parts (l .s) (l .memory) (l .registers) (l .touched) (l .columns) (l .numbers) (l .lengths)) in
     let b = now (a .breakpoints) in
     let n = a .budget .0 - l .begun in
-    let v = c .before .before .verdict .given in
+    let v = c .before .before .before .verdict .given in
     let x = v .0 .0 in
-    let e : verdict b (l .begun) n (view q) ≡ stop x = sym (c .before .before .before .before .run-verdict .ensures) ∙ ap runVerdictOf (v .1) in
-    let z = c .stopped-core .ensures in (
+    let e : verdict b (l .begun) n (view q) ≡ stop x = sym (c .before .before .before .before .before .run-verdict .ensures) ∙ ap runVerdictOf (v .1) in
+    let z = c .closed-core .ensures ∙ ap (λ (j : ℕ). closedCore j (l .s)) (c .before .number .ensures) in (
       (λ i. record { stop = x; executed = l .begun; machine = view (parts (z i) (l .memory) (l .registers) (l .touched) (l .columns) (l .numbers) (l .lengths)) })
-          ∙ (λ i. record { stop = x; executed = l .begun; machine = stopped-view x q i })
           ∙ sym (run-stops b (l .begun) n (view q) x e)
           ∙ l .inv .0,
-      λ o. (λ i. parts (z i) (l .memory) (l .registers) (l .touched) (l .columns) (l .numbers) (l .lengths)) ∙ ap (stoppedParts x) (l .inv .4 o),
-      rw z (stopped-fit x q (l .inv .3)),
+      λ o. (λ i. parts (z i) (l .memory) (l .registers) (l .touched) (l .columns) (l .numbers) (l .lengths)) ∙ ap (closedParts (runNumber x)) (l .inv .4 o),
+      rw z (closed-fit (runNumber x) q (l .inv .3)),
     )
 
 enum-told : tie.Need-enum-told Inv-loop μ-loop
@@ -119,7 +123,8 @@ run-parts-spec =
     loop-holds
     run-verdict-requires
     enum-known-verdict
-    stopped-core-requires
+    number-requires
+    closed-core-requires
     returns
     enum-told
     next-parts-requires

@@ -13,7 +13,7 @@ z-requires : tie.Need-z-requires
 z-requires c κs = search needs
 
 returns : tie.Need-returns
-returns c = λ i. record { 0 = c .before .before .x .ensures i; 1 = c .before .y .ensures i; 2 = c .z .ensures i }
+returns c = λ i. record { x = c .before .before .x .ensures i; y = c .before .y .ensures i; z = c .z .ensures i }
 
 pub xyz-spec : {M : Type 1} → statement M
 xyz-spec = tie.close (tie.spec x-requires y-requires z-requires returns)

@@ -7,11 +7,14 @@ use borrow.Author.Needs.{needs}
 use lib.ListN.{length, getD}
 use mir.Val.{Fits}
 use mir.Syntax.{w8}
+use Rattle.isa.specs.Sizes.{memoryWords}
+use Rattle.trace.specs.Trace.{traceLimit}
+use Rattle.control.proofs.Addresses.{of-memory}
 use Rattle.vm.proofs.Histories.{store-by, saved-by, unsaved-by, saved-store, unsaved-store}
 use Rattle.vm.proofs.machine.Machine.push_history.Statement.{statement}
 use Rattle.vm.proofs.machine.Machine.push_history.Tie as tie
 
-long : (c : tie.Start) → (length (c .args .self .touched) ≡ 256) × (length (c .args .self .lengths) ≡ 512)
+long : (c : tie.Start) → (length (c .args .self .touched) ≡ memoryWords) × (length (c .args .self .lengths) ≡ traceLimit)
 long c = (search needs, search needs)
 
 byte : (c : tie.Start) (i : ℕ) → Fits w8 (getD (c .args .self .touched) i 0)
@@ -21,7 +24,7 @@ parts-ok-requires : tie.Need-parts-ok-requires
 parts-ok-requires c κs =
     let s = c .before .before .before .before .before .before .before in
     let l = long s in
-    (l .0, l .1, λ i. byte s i .fits)
+    (l .0, l .1, λ i. of-memory (byte s i))
 
 store-refusal-requires : tie.Need-store-refusal-requires
 store-refusal-requires c κs = search needs

@@ -4,9 +4,11 @@ use borrow.Author.Needs.{needs}
 use lib.ListN.{length, getD}
 use mir.Val.{Fits}
 use mir.Syntax.{w8}
-use Rattle.trace.specs.Trace.{columnsLength}
-use Rattle.vm.specs.Refusal.{Sizes}
+use Rattle.isa.specs.Sizes.{memoryWords}
+use Rattle.trace.specs.Trace.{columnsLength, traceLimit}
+use Rattle.vm.specs.Forms.{Sizes}
 use Rattle.vm.specs.Calls.{partsOf}
+use Rattle.control.proofs.Addresses.{of-memory}
 use Rattle.vm.proofs.Fits.{withParts}
 use Rattle.vm.proofs.machine.Machine.step_instruction.Statement.{statement}
 use Rattle.vm.proofs.machine.Machine.step_instruction.Tie as tie
@@ -15,11 +17,11 @@ use Rattle.vm.proofs.machine.Machine.step_instruction.Tie as tie
 byte : (c : tie.Start) (i : ℕ) → Fits w8 (getD (c .args .self .touched) i 0)
 byte c i = search needs
 
-long : (c : tie.Start) → let m = c .args .self in (length (m .touched) ≡ 256) × (length (m .columns) ≡ columnsLength) × (length (m .numbers) ≡ 512) × (length (m .lengths) ≡ 512)
+long : (c : tie.Start) → let m = c .args .self in (length (m .touched) ≡ memoryWords) × (length (m .columns) ≡ columnsLength) × (length (m .numbers) ≡ traceLimit) × (length (m .lengths) ≡ traceLimit)
 long c = (search needs, search needs, search needs, search needs)
 
 sizes : (c : tie.Start) → Sizes (partsOf (c .args .self))
-sizes c = let l = long c in record { touched = l .0; bytes = λ i. byte c i .fits; columns = l .1; numbers = l .2; lengths = l .3 }
+sizes c = let l = long c in record { touched = l .0; bytes = λ i. of-memory (byte c i); columns = l .1; numbers = l .2; lengths = l .3 }
 
 step-parts-requires : tie.Need-step-parts-requires
 step-parts-requires c κs = sizes (c .before .before .before .before .before .before .before .before .before .before .before .before .before .before)

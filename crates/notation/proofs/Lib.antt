@@ -1,0 +1,2 @@
+-- `Hex` has the laws of the template for hexadecimal numbers.
+pub mod Hex

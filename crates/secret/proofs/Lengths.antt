@@ -1,0 +1,158 @@
+-- The length of a report (01, section 6): a function of the numbers of breakpoints, trace records and touched addresses. No accepted one is over `reportLimit`, 33,930 bytes.
+-- Assumes nothing.
+use Prim.Native.Nat.{ℕ, _+_, _*_, _≤_, _<_}
+use native.Mathlib.Omega.{arith}
+use mathlib.Core.Path.{_≡_, refl, sym, ap, _∙_}
+use mathlib.Core.Bool.{Bool}
+use mathlib.Core.List.{List, _++_, append-assoc}
+use lib.ListN.{length, take, drop, getD, length-append, length-drop}
+use lib.Seq.{length-take-le, drop-at}
+use Rattle.encoding.specs.Bytes.{bigEndian}
+use Rattle.encoding.proofs.Numbers.{length-bigEndian}
+use Rattle.encoding.proofs.Written.{length-each}
+use Rattle.isa.specs.Text.{padded, textOf}
+use Rattle.isa.proofs.Texts.{length-padded}
+use Rattle.control.specs.declared.control.State.{State}
+use Rattle.control.specs.declared.counters.Counters.{Counters}
+use Rattle.trace.specs.declared.records.TraceRecord.{TraceRecord}
+use Rattle.vm.specs.Calls.{imageWords}
+use Rattle.vm.specs.Machine.{Machine}
+use Rattle.marks.specs.Marks.{Marks}
+use Rattle.vm.specs.Guard.{guardedOf}
+use Rattle.guard.specs.Input.{Input, breakLimit}
+use Rattle.guard.specs.Stops.{stopNumber}
+use Rattle.trace.specs.Trace.{traceLimit, addressesAt, phasesAt, columnsLength}
+use Rattle.isa.specs.Sizes.{memoryWords, registerCount, textWidth}
+use Rattle.control.specs.Codes.{faultBytes}
+use Rattle.secret.specs.Report.{headRecord, startRecord, startRecords, indexBytes, addressBytes, breakRecord, touchedRecord, eachRecord, traceBytes, traceRecord, noRecord, traceRecords, valueRecord, valueRecords, countBytes, controlBytes, endRecord, endRecords, endBytes, reportOn, reportBytes}
+use Rattle.secret.specs.Forms.{slotBytes}
+use Rattle.control.specs.Address.{addressWidth}
+use Rattle.secret.specs.Widths.{indexWidth, startLength, breakLength, traceLength, valueLength, touchedLength, endLength, startsLength, runLength, reportLength, reportLimit}
+use Rattle.secret.specs.Public.{reportRefusal}
+use Rattle.secret.proofs.Accepts.{accepted}
+use Rattle.secret.proofs.Bounds.{live-fits, guarded-bounded, touched-few}
+use Rattle.secret.proofs.Shows.{length-head, length-touched, length-value, length-start}
+
+-- every text of a trace fits its field
+abbrev pub TextsFit : List TraceRecord → Type 0
+TextsFit t = (i : ℕ) → length (textOf (getD t i noRecord .text)) ≤ textWidth
+
+-- ---- the records
+
+pub length-traceBytes : (n a p : ℕ) (x : List ℕ) → length x ≡ textWidth → length (traceBytes n a p x) ≡ traceLength
+unfolding traceBytes
+length-traceBytes n a p x h = simp (length-append, length-bigEndian, h)
+
+pub length-trace : (r : TraceRecord) → length (textOf (r .text)) ≤ textWidth → length (traceRecord r) ≡ traceLength
+unfolding traceRecord
+length-trace r h = length-traceBytes (r .number) (r .address) (r .phase) (padded textWidth (textOf (r .text))) (length-padded textWidth (textOf (r .text)) h)
+
+pub length-slot : (k i : List ℕ) (j : ℕ) → length k ≡ columnsLength → j < traceLimit → length (slotBytes k i j) ≡ traceLength
+length-slot k i j e h =
+    let l : textWidth ≤ length (drop (j * textWidth) k) = simp length-drop (omega arith) in
+    length-traceBytes (getD i j 0) (getD k (addressesAt + j) 0) (getD k (phasesAt + j) 0) (take textWidth (drop (j * textWidth) k)) (length-take-le textWidth (drop (j * textWidth) k) l)
+
+pub length-end : (hid : ℕ → Bool) (stop : ℕ) (s : State) (k : Counters) (mark : ℕ) → length (endRecord hid stop s k mark) ≡ endLength
+unfolding endRecord controlBytes countBytes faultBytes bigEndian
+length-end hid stop s k mark = refl
+
+-- ---- the rows
+
+pub length-starts : (hid : ℕ → Bool) (words marks : List ℕ) → length (startRecords hid words marks) ≡ startsLength
+unfolding startRecords
+length-starts hid words marks = length-each startLength (λ a. startRecord hid a (getD marks a 0) (getD words a 0)) 0 memoryWords (λ a. length-start hid a (getD marks a 0) (getD words a 0))
+
+-- of w bytes each
+pub length-list : (w : ℕ) (f : ℕ → List ℕ) (l : List ℕ) → ((x : ℕ) → length (f x) ≡ w) → length (eachRecord f l) ≡ w * length l
+unfolding eachRecord
+length-list w f l h = length-each w (λ i. f (getD l i 0)) 0 (length l) (λ i. h (getD l i 0))
+
+pub length-breaks : (l : List ℕ) → length (eachRecord breakRecord l) ≡ breakLength * length l
+length-breaks l = length-list breakLength breakRecord l (λ b. refl)
+
+pub length-touches : (l : List ℕ) → length (eachRecord touchedRecord l) ≡ touchedLength * length l
+length-touches l = length-list touchedLength touchedRecord l length-touched
+
+pub length-traces : (t : List TraceRecord) → TextsFit t → length (traceRecords t) ≡ traceLength * length t
+unfolding traceRecords
+length-traces t h = length-each traceLength (λ i. traceRecord (getD t i noRecord)) 0 (length t) (λ i. length-trace (getD t i noRecord) (h i))
+
+-- an index has w bytes
+pub length-values : (hid : ℕ → Bool) (kind w n : ℕ) (values marks : List ℕ) → length (valueRecords hid kind (bigEndian w) n values marks) ≡ valueLength w * n
+unfolding valueRecords
+length-values hid kind w n values marks =
+    length-each (valueLength w) (λ i. valueRecord hid kind (bigEndian w i) (getD marks i 0) (getD values i 0)) 0 n
+    (λ i. length-value hid kind (bigEndian w i) (getD marks i 0) (getD values i 0) (length-bigEndian w i))
+
+-- ---- the whole
+
+module _ (hid : ℕ → Bool) where
+  length-records : (stop : ℕ) (m : Machine) (k : Marks) → TextsFit (m .trace)
+      → length (endRecords hid stop m k) ≡ runLength (length (m .trace)) (length (m .touched))
+  unfolding endRecords
+  length-records stop m k h = simp (
+    length-append,
+    length-traces (m .trace) h,
+    length-values hid 5 indexWidth registerCount (m .registers) (k .registers),
+    length-values hid 6 addressWidth memoryWords (m .memory) (k .memory),
+    length-touches (m .touched),
+    length-end hid stop (m .state) (m .counters) (k .mdr),
+  )
+
+  length-with : (i : Input) → TextsFit (guardedOf hid i .guarded .machine .trace)
+      → length (reportBytes hid i) ≡ reportLength (length (i .breaks)) (length (guardedOf hid i .guarded .machine .trace)) (length (guardedOf hid i .guarded .machine .touched))
+  unfolding reportBytes reportOn endBytes
+  length-with i h =
+      let e = guardedOf hid i in
+      simp (
+        length-append,
+        length-head (length (i .image)) (i .budget) (length (i .breaks)),
+        length-starts hid (imageWords (i .image)) (i .marks),
+        length-breaks (i .breaks),
+        length-records (stopNumber (e .stop)) (e .guarded .machine) (e .guarded .marks) h,
+      )
+
+  -- of every guarded run
+  pub length-report : (i : Input)
+      → length (reportBytes hid i) ≡ reportLength (length (i .breaks)) (length (guardedOf hid i .guarded .machine .trace)) (length (guardedOf hid i .guarded .machine .touched))
+  length-report i = length-with i (λ n. live-fits _ (guarded-bounded hid i .texts n))
+
+  -- its last record is that of the run's end
+  pub last-record : (i : Input) (n : ℕ) → n + endLength ≡ length (reportBytes hid i)
+      → (let e = guardedOf hid i in drop n (reportBytes hid i) ≡ endRecord hid (stopNumber (e .stop)) (e .guarded .machine .state) (e .guarded .machine .counters) (e .guarded .marks .mdr))
+  unfolding reportBytes reportOn endBytes endRecords
+  last-record i n h =
+      let e = guardedOf hid i in
+      let m = e .guarded .machine in
+      let k = e .guarded .marks in
+      let last = endRecord hid (stopNumber (e .stop)) (m .state) (m .counters) (k .mdr) in
+      let front =
+      headRecord (length (i .image)) (i .budget) (length (i .breaks))
+      ++ (startRecords hid (imageWords (i .image)) (i .marks)
+      ++ (eachRecord breakRecord (i .breaks)
+      ++ (traceRecords (m .trace)
+      ++ (valueRecords hid 5 indexBytes registerCount (m .registers) (k .registers)
+      ++ (valueRecords hid 6 addressBytes memoryWords (m .memory) (k .memory) ++ eachRecord touchedRecord (m .touched)))))) in
+      let parts : front ++ last ≡ reportBytes hid i = simp append-assoc in
+      let size : length front + endLength ≡ length (reportBytes hid i) = sym (ap (λ (x : ℕ). length front + x) (length-end hid (stopNumber (e .stop)) (m .state) (m .counters) (k .mdr))) ∙ sym (length-append front last) ∙ ap length parts in
+      ap (drop n) (sym parts) ∙ drop-at front last n (omega arith)
+
+-- none is empty
+pub report-some : (hid : ℕ → Bool) (i : Input) → 0 < length (reportBytes hid i)
+report-some hid i = rw (length-report hid i) (omega arith)
+
+-- the limit as a number
+pub limit-number : reportLimit ≡ 33930
+limit-number = refl
+
+-- no larger length comes of numbers that are not larger
+pub limit-holds : (breaks trace touched : ℕ) → breaks ≤ breakLimit → trace ≤ traceLimit → touched ≤ memoryWords → reportLength breaks trace touched ≤ reportLimit
+limit-holds breaks trace touched b t a = omega arith
+
+-- a report that is not refused fits its buffer
+pub report-fits : (hid : ℕ → Bool) (i : Input) (room : ℕ) → reportRefusal i room ≡ 0 → (length (reportBytes hid i) ≤ reportLimit) × (reportLimit ≤ room)
+report-fits hid i room e =
+    let a = accepted i room e in
+    let b = guarded-bounded hid i in
+    let m = guardedOf hid i .guarded .machine in
+    (rw (length-report hid i) (limit-holds (length (i .breaks)) (length (m .trace)) (length (m .touched)) (a .0 .few) (b .trace) (touched-few m b)), a .1)

@@ -1,0 +1,7 @@
+pub mod Widths
+pub mod Report
+pub mod Forms
+pub mod Public
+pub mod Outcome
+pub mod Program
+pub mod Demand
