@@ -2,21 +2,21 @@
 //! records are bytes in a lent store; the original's are structs on its heap.
 
 use crate::{median, medians, timing};
+use oracle::calls::snapshots::RECORD;
 use oracle::images;
+use oracle::sizes::{HISTORY_RECORDS, MEMORY_WORDS};
 use oracle::vm::Machine;
 use std::hint::black_box;
 use std::time::Instant;
 
-/// The most records, and the bytes of one.
-const LIMIT: u64 = 20_000;
-const RECORD: usize = 576;
+const LIMIT: u64 = HISTORY_RECORDS as u64;
 const PUSHES: u64 = 5;
 const PUSH_ROUNDS: usize = 30;
 const UNDO_ROUNDS: usize = 15;
 
 /// A store that is full at the limit.
 pub fn store() -> Vec<u8> {
-    vec![0; LIMIT as usize * RECORD]
+    vec![0; HISTORY_RECORDS * RECORD]
 }
 
 /// Times mean nothing where the two sides do not do the same.
@@ -69,10 +69,10 @@ pub fn pushing(words: &[u16], store: &mut [u8]) -> (f64, f64) {
 /// timed.
 pub fn undoing(words: &[u16], changed: usize, store: &mut [u8]) -> (f64, f64) {
     let mut other = words.to_vec();
-    other.resize(256, 0);
+    other.resize(MEMORY_WORDS, 0);
     // Every seventh word and on round: the places are far apart, as stores are.
     for index in 0..changed {
-        other[(index * 7 + 3) % 256] ^= 0x5A5A;
+        other[(index * 7 + 3) % MEMORY_WORDS] ^= 0x5A5A;
     }
     let other_image = images::bytes(&other);
     timing::pushes(&images::bytes(words), store, 0, LIMIT);

@@ -3,8 +3,8 @@
 //! original's borrow it and check nothing.
 
 use crate::{medians, timing};
-use oracle::images;
 use oracle::vm::Machine;
+use oracle::{images, sizes};
 use std::hint::black_box;
 
 /// Rounds of a run, of which the original takes a second for each program.
@@ -14,7 +14,7 @@ pub const BUDGET: u64 = 1_000_000;
 const CALLS: u64 = 1_000;
 /// As many breakpoints as a guarded run may have, at an address that no program
 /// comes to.
-pub const BREAKPOINTS: [u8; 256] = [0xFE; 256];
+pub const BREAKPOINTS: [u8; sizes::BREAKPOINTS] = [0xFE; sizes::BREAKPOINTS];
 /// A run of the port makes its first instruction, then stretches of 256 without
 /// a trace: the two sides must agree wherever a run ends.
 pub const ENDS: [u64; 17] = [

@@ -8,17 +8,16 @@ mod report;
 mod timing;
 
 use oracle::random::Random;
+use oracle::sizes::{LISTING_WORDS, TEXT};
 use oracle::{disasm, images};
 use std::hint::black_box;
 use std::time::{Duration, Instant};
 
 const SETS: usize = 16;
-const WORDS: usize = 256;
 const ROUNDS: usize = 60;
 /// How long one side runs in one round.
 const TURN: Duration = Duration::from_millis(3);
-/// The bytes of a text, and enough for the longest listing.
-const TEXT: usize = 32;
+/// Enough for the longest listing.
 const LISTING: usize = 12_288;
 
 fn main() {
@@ -88,10 +87,10 @@ fn main() {
 /// Each of the sixteen first digits equally often, in an order by chance.
 fn mix(seed: u64) -> Vec<u16> {
     let mut random = Random::new(seed);
-    let mut words: Vec<u16> = (0..WORDS)
+    let mut words: Vec<u16> = (0..LISTING_WORDS)
         .map(|index| (index as u16) << 12 | random.word() >> 4)
         .collect();
-    for last in (1..WORDS).rev() {
+    for last in (1..LISTING_WORDS).rev() {
         words.swap(last, random.below(last + 1));
     }
     words

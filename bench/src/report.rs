@@ -5,18 +5,17 @@
 use crate::machine::{run, BREAKPOINTS, BUDGET, ENDS, RUN_ROUNDS};
 use crate::{medians, ROUNDS};
 use oracle::disasm;
-use oracle::guarded::Input;
-use oracle::report_program;
+use oracle::report::bytes::LONGEST;
+use oracle::report::guarded::Input;
+use oracle::report::program;
+use oracle::sizes::MEMORY_WORDS;
 use std::hint::black_box;
-
-const REPORT: usize = 33_930;
-const MEMORY: usize = 256;
 
 /// What the report program reads for an image without hidden words.
 fn input(words: &[u16], budget: u64, breakpoints: &[u8]) -> Vec<u8> {
-    report_program::bytes(&Input {
+    program::bytes(&Input {
         image: words.to_vec(),
-        marks: vec![0; MEMORY],
+        marks: vec![0; MEMORY_WORDS],
         budget,
         breakpoints: breakpoints.to_vec(),
     })
@@ -24,13 +23,13 @@ fn input(words: &[u16], budget: u64, breakpoints: &[u8]) -> Vec<u8> {
 
 /// Times mean nothing where the two sides do not do the same.
 pub fn agree(programs: &[Vec<u16>]) {
-    let mut out = [0; REPORT];
+    let mut out = [0; LONGEST];
     for words in programs.iter().map(Vec::as_slice).chain([&[][..]]) {
         for budget in ENDS {
             for breakpoints in [&[][..], &BREAKPOINTS] {
                 let bytes = input(words, budget, breakpoints);
                 let length = archive::report(&bytes, &mut out) as usize;
-                assert_eq!(out[..length], *report_program::answer(&bytes));
+                assert_eq!(out[..length], *program::answer(&bytes));
             }
         }
     }
@@ -43,7 +42,7 @@ pub fn whole(programs: &[Vec<u16>], breakpoints: &[u8]) -> (f64, f64) {
         .iter()
         .map(|words| input(words, BUDGET, breakpoints))
         .collect();
-    let mut out = [0; REPORT];
+    let mut out = [0; LONGEST];
     let mut rust = || {
         for words in programs {
             black_box(run(black_box(words), 0, BUDGET, breakpoints));
@@ -60,7 +59,7 @@ pub fn whole(programs: &[Vec<u16>], breakpoints: &[u8]) -> (f64, f64) {
 /// The report of an empty image, beside the original's texts of 256 words.
 pub fn empty(words: &[u16]) -> (f64, f64) {
     let bytes = input(&[], 1, &[]);
-    let mut out = [0; REPORT];
+    let mut out = [0; LONGEST];
     let mut rust = || {
         for word in words {
             black_box(disasm::disassemble(black_box(*word)));

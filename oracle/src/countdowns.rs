@@ -3,6 +3,7 @@
 //! where a run ends, or the program changes, near the end of such a stretch.
 
 use crate::programs::{HALT, IDLE, JUMP};
+use crate::sizes::BREAKPOINTS;
 
 /// Where the loop begins, and where a countdown comes out of it.
 pub const LOOP: u16 = 0x20;
@@ -150,12 +151,12 @@ pub fn over_jump_back(load: u16, body: &[u16]) -> Vec<u16> {
     vec![load, 0x4300 | jump_back(body), JUMP | LOOP]
 }
 
-/// No breakpoint, one, and 256. The one and one of the 256 end the run where
+/// No breakpoint, one, and the most. The one and one of the many end the run where
 /// `out` says so; else they are where the run begins, which ends nothing.
 pub fn breakpoint_lists(out: &Out, place: usize) -> [Vec<u8>; 3] {
     let met = out.breakpoint.unwrap_or(0);
     // PC comes to none of these.
-    let mut many: Vec<u8> = (0..=255).map(|at| 0xE0 | at & 0x0F).collect();
-    many[place % 256] = met;
+    let mut many: Vec<u8> = (0..BREAKPOINTS).map(|at| 0xE0 | at as u8 & 0x0F).collect();
+    many[place % BREAKPOINTS] = met;
     [Vec::new(), vec![met], many]
 }

@@ -1,6 +1,8 @@
-//! Program images for the listing.
+//! Program images, as words and as bytes.
 
+use crate::encoding::put_words;
 use crate::random::Random;
+use crate::sizes::LISTING_WORDS;
 
 /// Words of any kind.
 pub fn mixed(random: &mut Random, words: usize) -> Vec<u16> {
@@ -28,14 +30,16 @@ fn referring(random: &mut Random, words: usize) -> u16 {
         2 => words,
         3 => words + random.below(4),
         4 => random.below(words.max(1)),
-        _ => random.below(256),
+        _ => random.below(LISTING_WORDS),
     };
     opcode << 12 | register << 8 | (address as u16 & 0xFF)
 }
 
 /// The form in which the port takes an image: high byte first.
 pub fn bytes(words: &[u16]) -> Vec<u8> {
-    words.iter().flat_map(|word| word.to_be_bytes()).collect()
+    let mut bytes = Vec::new();
+    put_words(&mut bytes, words);
+    bytes
 }
 
 /// The whole words of an image; an odd byte at the end is none.
@@ -44,4 +48,9 @@ pub fn whole_words(image: &[u8]) -> Vec<u16> {
         .chunks_exact(2)
         .map(|pair| u16::from_be_bytes([pair[0], pair[1]]))
         .collect()
+}
+
+/// What the samples say in ASCII: two characters to a word.
+pub fn saying_invented() -> Vec<u16> {
+    whole_words(b"INVENTED SAMPLE.")
 }

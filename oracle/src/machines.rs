@@ -2,8 +2,9 @@
 //! execute ticks is a left-over of any size; afterwards it is that of IR's
 //! word, and the tick is one of them: no machine comes to any other state.
 
+use crate::codes::{self, ALU_OPCODES};
+use crate::isa::Instruction;
 use crate::random::Random;
-use crate::ticks::{self, ALU_OPCODES};
 use crate::vm::{AluRecord, BusDirection, BusTransfer, Fault, FaultKind, Machine};
 
 /// Words at the ends of the signed and the unsigned range, and halves.
@@ -14,11 +15,16 @@ pub const EDGES: [u16; 10] = [
 /// Addresses at the ends, and the low bytes of shifts by around 16 bits.
 const EDGE_BYTES: [u8; 8] = [0x00, 0x01, 0x0F, 0x10, 0x11, 0x7F, 0xFE, 0xFF];
 
+/// How many execute ticks a word has.
+pub fn execute_ticks(word: u16) -> u8 {
+    Machine::execute_tick_count(Instruction::from_word(word).opcode())
+}
+
 /// A machine at any tick of any word.
 pub fn any(random: &mut Random) -> Machine {
     let opcode = random.below(16) as u16;
     let word = word_of(random, opcode);
-    let execute = ticks::execute_ticks(word) as usize;
+    let execute = execute_ticks(word) as usize;
     // The execute ticks are asked for as often as the four of the fetch.
     let tick = match random.below(2) {
         0 if execute > 0 => 4 + random.below(execute),
@@ -48,7 +54,7 @@ pub fn at(random: &mut Random, word: u16, tick: u8) -> Machine {
     machine.tick = tick;
     machine.execute_ticks = match tick {
         0..=3 => random.byte(),
-        _ => ticks::execute_ticks(word),
+        _ => execute_ticks(word),
     };
     fill(random, &mut machine);
     // Two words by chance are hardly ever equal, and a jump asks for just that.
@@ -117,7 +123,7 @@ fn alu(random: &mut Random) -> Option<AluRecord> {
     let opcode = ALU_OPCODES.get(random.below(1 + ALU_OPCODES.len()))?;
     let right = edge_or_any(random);
     Some(AluRecord {
-        operation: ticks::operation_name(*opcode),
+        operation: codes::operation_name(*opcode),
         left: edge_or_any(random),
         right: random.pick(&[None, Some(right)]),
         result: edge_or_any(random),

@@ -4,6 +4,7 @@
 
 use crate::machines;
 use crate::random::Random;
+use crate::sizes::{CODE_WORDS, MEMORY_WORDS};
 
 pub const HALT: u16 = 0xE000;
 /// JUMP on R0 to 00, which is always taken.
@@ -119,15 +120,15 @@ fn jump(random: &mut Random, length: usize) -> u16 {
 
 /// Jumps near the last address and runs over it, so that PC wraps.
 fn wraps(random: &mut Random) -> Vec<u16> {
-    let from = 256 - (1 + random.below(12));
-    let mut program = vec![0; 256];
+    let from = CODE_WORDS - (1 + random.below(12));
+    let mut program = vec![0; CODE_WORDS];
     program[0] = JUMP | from as u16;
     for word in &mut program[from..] {
         *word = instruction(random);
     }
     // The second time round, address 00 holds what a store may have left.
     if random.below(2) == 0 {
-        program[255] = 0x4100 | random.below(4) as u16;
+        program[CODE_WORDS - 1] = 0x4100 | random.below(4) as u16;
     }
     for (word, next) in program[1..].iter_mut().zip(body(random, 6)) {
         *word = next;
@@ -142,14 +143,14 @@ fn sweep(random: &mut Random) -> Vec<u16> {
     let stride = random.pick(&[1, 1, 1, 3, 7, 85, 127, 128, 255]);
     let offset = match random.below(2) {
         0 => random.pick(&[0, 255]),
-        _ => random.below(256),
+        _ => random.below(CODE_WORDS),
     };
-    let mut program: Vec<u16> = (0..256)
-        .map(|at| 0x4100 | ((at * stride + offset) % 256) as u16)
+    let mut program: Vec<u16> = (0..CODE_WORDS)
+        .map(|at| 0x4100 | ((at * stride + offset) % CODE_WORDS) as u16)
         .collect();
     if random.below(2) == 0 {
         program[0] = 0x31FF;
-        program[255] = random.pick(&[IDLE, IDLE, IDLE, 0x7020, HALT, JUMP]);
+        program[CODE_WORDS - 1] = random.pick(&[IDLE, IDLE, IDLE, 0x7020, HALT, JUMP]);
     }
     program
 }
@@ -171,10 +172,10 @@ fn patched(random: &mut Random) -> Vec<u16> {
     program
 }
 
-/// All 256 words, or about as many, with jumps among them.
+/// All words of memory, or about as many, with jumps among them.
 fn whole(random: &mut Random) -> Vec<u16> {
-    let length = random.pick(&[250, 255, 256, 257, 260]);
-    (0..length)
+    let around = random.pick(&[-6, -1, 0, 1, 4]);
+    (0..MEMORY_WORDS.wrapping_add_signed(around))
         .map(|_| match random.below(12) {
             0 => JUMP | random.word() & 0xFFF,
             1 if random.below(6) == 0 => random.word(),

@@ -1,7 +1,8 @@
 //! The port's programs that replay lists, each with its lists.
 
+use crate::readings;
 use crate::record::Record;
-use crate::{lists, reading_lists, tick_lists};
+use crate::words::{text_lists, tick_lists};
 
 pub struct Replay {
     pub program: &'static str,
@@ -22,20 +23,20 @@ pub const REPLAYS: [Replay; 2] = [
     Replay {
         program: "replay_words",
         kinds: b"WNAEBHPLTFUM",
-        fixed: || joined(lists::fixed(), tick_lists::fixed()),
-        full: || joined(lists::full(), tick_lists::full()),
-        samples: || joined(lists::samples(), tick_lists::samples()),
+        fixed: || joined(text_lists::fixed(), tick_lists::fixed()),
+        full: || joined(text_lists::full(), tick_lists::full()),
+        samples: || joined(text_lists::samples(), tick_lists::samples()),
         counted: b"PL",
         malformed: Vec::new,
     },
     Replay {
         program: "replay_readings",
         kinds: b"RG",
-        fixed: reading_lists::fixed,
-        full: reading_lists::full,
-        samples: reading_lists::samples,
+        fixed: readings::lists::fixed,
+        full: readings::lists::full,
+        samples: readings::lists::samples,
         counted: b"RG",
-        malformed: reading_lists::malformed,
+        malformed: readings::lists::malformed,
     },
 ];
 

@@ -1,14 +1,12 @@
 //! The model of the guarded run, of its report and of the report program, held
 //! to sentences of document 01 by answers that are written out here.
 
-use oracle::example_reports::{self as examples, input, marks_at, with_word_10};
-use oracle::guarded::{self, Input, Run, Stop};
 use oracle::record;
-use oracle::report_bytes::{self, LONGEST};
-use oracle::report_lists::{Relation, FAMILIES};
-use oracle::report_program::{answer, bytes, refused, DECIDING};
-use oracle::report_sample;
-use oracle::{random_reports, refused_reports, report_pairs};
+use oracle::report::bytes::LONGEST;
+use oracle::report::guarded::{self, Input, Run, Stop};
+use oracle::report::inputs::examples::{self, input, marks_at, with_word_10};
+use oracle::report::inputs::{self, pairs, sample, Relation, FAMILIES};
+use oracle::report::program::{answer, bytes, refused, DECIDING};
 
 const HALT: u16 = 0xE000;
 
@@ -17,7 +15,7 @@ fn run(input: &Input) -> Run {
 }
 
 fn report(input: &Input) -> Vec<u8> {
-    report_bytes::report(input).expect("it is served")
+    oracle::report::bytes::report(input).expect("it is served")
 }
 
 /// The bytes of a record of each kind, its kind among them.
@@ -142,7 +140,7 @@ fn example_15() {
     assert_eq!((accepted.budget, over.budget), (1_000_000, 1_000_001));
     let head = [1, 0, 1, 0, 0, 0, 0, 0, 0x0F, 0x42, 0x40, 0, 0];
     assert!(report(&accepted).starts_with(&head));
-    assert_eq!(report_bytes::report(&over), Err(4));
+    assert_eq!(oracle::report::bytes::report(&over), Err(4));
     assert_eq!(answer(&bytes(&over)), b"refused 4\n");
 }
 
@@ -246,7 +244,7 @@ fn texts_of_32_bytes() {
 /// A hidden word shows nowhere, and neither does what was made of it.
 #[test]
 fn a_marked_value_is_written_0000() {
-    let report = report(&report_pairs::value(0, 0x5EC7));
+    let report = report(&pairs::value(0, 0x5EC7));
     assert_eq!(
         of_kind(&report, 2)[0x10][1..],
         [&[0x10, 1][..], &[0; 34]].concat()
@@ -509,7 +507,7 @@ fn refusals_of_the_program() {
 #[test]
 fn the_program_refuses_as_the_run_does() {
     for number in 0..200 {
-        let input = random_reports::any(number);
+        let input = inputs::random::any(number);
         assert_eq!(answer(&bytes(&input)), report(&input));
     }
     let over = Input {
@@ -530,8 +528,8 @@ fn so_many_bytes_decide() {
     let longer = [&served[..], &[0]].concat();
     assert_eq!(served.len(), 1_036);
     assert_ne!(answer(&served), answer(&longer));
-    let inputs = [refused_reports::lengths(), refused_reports::companies()].concat();
-    let damaged = (0..400).map(refused_reports::damaged);
+    let inputs = [inputs::refused::lengths(), inputs::refused::companies()].concat();
+    let damaged = (0..400).map(inputs::refused::damaged);
     for input in inputs.into_iter().chain(damaged) {
         let cut = &input[..input.len().min(DECIDING)];
         assert_eq!(answer(&input), answer(cut));
@@ -583,8 +581,8 @@ fn the_families_are_answered() {
 /// Pairs are such that they differ where they say, and nowhere else.
 #[test]
 fn pairs_differ_in_one_thing() {
-    for number in 0..report_pairs::OPEN_CASES {
-        let pair = report_pairs::open(number);
+    for number in 0..pairs::OPEN_CASES {
+        let pair = pairs::open(number);
         let (a, b) = (&pair[0], &pair[1]);
         let differ = [
             a.image.len() != b.image.len(),
@@ -600,8 +598,8 @@ fn pairs_differ_in_one_thing() {
             "{number}"
         );
     }
-    for number in 0..report_pairs::HIDDEN_CASES {
-        let case = report_pairs::hidden(number);
+    for number in 0..pairs::HIDDEN_CASES {
+        let case = pairs::hidden(number);
         for other in &case[1..] {
             assert_ne!(*other, case[0]);
             let zipped = case[0].image.iter().zip(&other.image).enumerate();
@@ -621,9 +619,9 @@ fn pairs_differ_in_one_thing() {
 #[test]
 fn all_values_of_a_hidden_word() {
     for program in [1, 5, 7] {
-        let first = report(&report_pairs::value(program, 0));
+        let first = report(&pairs::value(program, 0));
         for word in 1..=u16::MAX {
-            let other = report(&report_pairs::value(program, word));
+            let other = report(&pairs::value(program, word));
             assert!(other == first, "program {program}, word {word:04X}");
         }
     }
@@ -632,17 +630,17 @@ fn all_values_of_a_hidden_word() {
 /// The list of the sample is read back as it was made.
 #[test]
 fn the_sample() {
-    let list = record::list_bytes(&report_sample::records());
+    let list = record::list_bytes(&sample::records());
     let mut rest = &list[..];
     let mut lengths = Vec::new();
     let mut refusals = Vec::new();
-    for input in report_sample::inputs() {
+    for input in sample::inputs() {
         let (length, behind) = rest.split_at(2);
         let length = usize::from(u16::from_be_bytes(length.try_into().unwrap()));
         let (record, behind) = behind.split_at(length);
         let (head, found) = record.split_at(3 + input.len());
         let count = (input.len() as u16).to_be_bytes();
-        assert_eq!(head, [&[report_sample::KIND], &count[..], &input].concat());
+        assert_eq!(head, [&[sample::KIND], &count[..], &input].concat());
         assert_eq!(found, answer(&input));
         lengths.push(found.len());
         refusals.extend(found.strip_prefix(b"refused ").map(|line| line[0]));
@@ -653,7 +651,7 @@ fn the_sample() {
     for number in b"12346" {
         assert!(refusals.contains(number));
     }
-    assert!(bytes(&report_sample::invented())
+    assert!(bytes(&sample::invented())
         .windows(16)
         .any(|said| said == b"INVENTED SAMPLE."));
 }

@@ -1,35 +1,23 @@
 //! The model of `massey_calls` itself, held to sentences of document 01 and of
 //! the call program's document, by answers that are written out here.
 
-use oracle::commands::{by_both_engines, field, Command, Input};
-use oracle::script_lists::FAMILIES;
-use oracle::snapshots::{self, RECORD};
+use oracle::calls::commands::{by_both_engines, field, run, script, set, Command, Input};
+use oracle::calls::program;
+use oracle::calls::scripts::{limits, FAMILIES};
+use oracle::calls::snapshots::{self, RECORD};
+use oracle::places;
 use oracle::vm_limited::{Fault, FaultKind, Machine};
-use oracle::{limit_scripts, places, scripts};
 
 const FULL: u64 = 18_446_744_073_709_551_600;
-
-fn script(store: u32, commands: &[Command]) -> Vec<u8> {
-    let bytes = commands.iter().flat_map(Command::bytes);
-    store.to_be_bytes().into_iter().chain(bytes).collect()
-}
 
 /// The first byte of each call's answer.
 fn numbers(script: &[u8]) -> Vec<u8> {
     let is_call = |command: &Command| !(0x0A..=0x0C).contains(&command.number());
-    scripts::parts(script)
+    program::parts(script)
         .iter()
         .filter(|part| part.command.as_ref().is_none_or(is_call))
         .map(|part| part.answer[0])
         .collect()
-}
-
-fn set(field: u8, value: u64) -> Command {
-    Command::Set(field, 0, value)
-}
-
-fn run(budget: u64) -> Command {
-    Command::Run(budget, Vec::new())
 }
 
 #[test]
@@ -45,18 +33,13 @@ fn the_copy_is_the_original_and_one_line() {
 
 #[test]
 fn example_16() {
-    assert_eq!(
-        numbers(&limit_scripts::example_16(0)),
-        [0, 7, 0, 7, 0, 7, 7]
-    );
-    assert_eq!(
-        numbers(&limit_scripts::example_16(1)),
-        [0, 0, 0, 0, 0, 0, 10]
-    );
+    assert_eq!(numbers(&limits::example_16(0)), [0, 7, 0, 7, 0, 7, 7]);
+    assert_eq!(numbers(&limits::example_16(1)), [0, 0, 0, 0, 0, 0, 10]);
 }
 
 #[test]
 fn a_record_has_the_fields_of_a_snapshot_in_their_order() {
+    assert_eq!((RECORD, snapshots::LAST), (576, 574));
     let mut machine = Machine::new();
     assert_eq!(snapshots::written(&machine.snapshot()), [0; RECORD]);
     machine.pc = 0x01;
@@ -187,21 +170,21 @@ fn the_order_of_the_refusals() {
 
 #[test]
 fn malformed_scripts() {
-    assert_eq!(scripts::output(&[]), [0xFF]);
-    assert_eq!(scripts::output(&[0, 0, 0]), [0xFF]);
-    assert_eq!(scripts::output(&[0, 0, 0, 0]), []);
-    assert_eq!(scripts::output(&[0, 1, 0, 0, 9]), [0]);
-    assert_eq!(scripts::output(&[0, 1, 0, 1, 9]), [0xFF]);
-    assert_eq!(scripts::output(&[0, 0, 0, 0, 9, 0x0F, 9]), [0, 0xFF]);
+    assert_eq!(program::output(&[]), [0xFF]);
+    assert_eq!(program::output(&[0, 0, 0]), [0xFF]);
+    assert_eq!(program::output(&[0, 0, 0, 0]), []);
+    assert_eq!(program::output(&[0, 1, 0, 0, 9]), [0]);
+    assert_eq!(program::output(&[0, 1, 0, 1, 9]), [0xFF]);
+    assert_eq!(program::output(&[0, 0, 0, 0, 9, 0x0F, 9]), [0, 0xFF]);
     assert_eq!(
-        scripts::output(&[0, 0, 0, 0, 9, 1, 0, 2, 0, 0, 0]),
+        program::output(&[0, 0, 0, 0, 9, 1, 0, 2, 0, 0, 0]),
         [0, 0xFF]
     );
     let mut longest = vec![9; 262_144];
     longest[..4].fill(0);
-    assert_eq!(scripts::output(&longest).len(), 262_140);
+    assert_eq!(program::output(&longest).len(), 262_140);
     longest.push(9);
-    assert_eq!(scripts::output(&longest), [0xFF]);
+    assert_eq!(program::output(&longest), [0xFF]);
 }
 
 #[test]
@@ -216,7 +199,7 @@ fn the_direct_engine_as_bytes() {
     for cut in 1..whole.len() {
         assert_eq!(Input(&whole[..cut]).command(), None);
         let script = [&[0, 0, 0, 0, 9], &whole[..cut]].concat();
-        assert_eq!(scripts::output(&script), [0, 0xFF]);
+        assert_eq!(program::output(&script), [0, 0xFF]);
     }
 }
 
@@ -224,7 +207,7 @@ fn the_direct_engine_as_bytes() {
 #[test]
 fn the_direct_engine_answers() {
     let load = Command::Load(vec![0x1105, 0xE000]);
-    let parts = scripts::parts(&script(0, &[load.clone(), Command::Direct]));
+    let parts = program::parts(&script(0, &[load.clone(), Command::Direct]));
     let answer = &parts[1].answer;
     assert_eq!(answer[..5], [0, 0, 0x11, 0x05, b'L']);
     assert_eq!((answer[36], answer.len()), (5, 37 + 5 * 32 + 2));
@@ -235,12 +218,12 @@ fn the_direct_engine_answers() {
         (run(0), [0, 3, 0, 0]),
     ];
     for (call, [refusal, stop, address, executed]) in runs {
-        let parts = scripts::parts(&script(0, &[load.clone(), call.direct()]));
+        let parts = program::parts(&script(0, &[load.clone(), call.direct()]));
         let due = [refusal, stop, address, 0, 0, 0, 0, 0, 0, 0, executed];
         assert_eq!(parts[1].answer, due);
     }
     let again = [load, run(9).direct(), run(9).direct()];
-    let parts = scripts::parts(&script(0, &again));
+    let parts = program::parts(&script(0, &again));
     assert_eq!(parts[2].answer, [0, 6, 0, 0, 0, 0, 0, 0, 0, 0, 0]);
 }
 
@@ -251,7 +234,7 @@ fn the_scripts_ask_what_is_fixed() {
         let count = (family.count)();
         for number in (0..count).step_by(1 + count / 40) {
             let script = (family.script)(number);
-            assert!(!scripts::output(&script).is_empty() || script.len() == 4);
+            assert!(!program::output(&script).is_empty() || script.len() == 4);
         }
     }
 }

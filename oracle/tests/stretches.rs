@@ -1,13 +1,14 @@
 //! The programs that end around the ends of stretches, and the families made of
 //! them: they come to what their makers say, where they say it.
 
-use oracle::commands::{field, Command};
+use oracle::calls::commands::{field, Command};
+use oracle::calls::program::{self, Part};
+use oracle::calls::scripts;
+use oracle::calls::snapshots::is_lawful;
 use oracle::countdowns::{self, bound, bound_of, countdown, out, BODIES, BOUNDS, OUT, OUTS};
-use oracle::guarded::{self, Stop};
-use oracle::scripts::{self, Part};
-use oracle::snapshots::is_lawful;
+use oracle::report::guarded::{self, Stop};
+use oracle::report::inputs;
 use oracle::vm::Machine;
-use oracle::{direct_scripts, stretch_reports, stretch_scripts};
 use std::collections::HashSet;
 
 const FULL: u64 = 18_446_744_073_709_551_600;
@@ -81,8 +82,8 @@ fn bodies_change_the_machine() {
 fn runs_end_at_their_bounds() {
     let stops = [0, 2, 1, 1, 0, 0, 2, 0];
     assert_eq!(stops.len(), OUTS);
-    for number_of in (0..stretch_scripts::END_SCRIPTS).step_by(7) {
-        let parts = scripts::parts(&stretch_scripts::ends(number_of));
+    for number_of in (0..scripts::stretches::END_SCRIPTS).step_by(7) {
+        let parts = program::parts(&scripts::stretches::ends(number_of));
         let runs: Vec<_> = parts.iter().filter_map(run).collect();
         assert_eq!(runs.len(), 6);
         let (begun, rest) = bound_of(number_of);
@@ -103,11 +104,11 @@ fn runs_end_at_their_bounds() {
 /// one below it is spent. What was completed is kept.
 #[test]
 fn full_counters_refuse_where_they_say() {
-    for number_of in (0..stretch_scripts::FULL_SCRIPTS).step_by(5) {
-        let parts = scripts::parts(&stretch_scripts::full(number_of));
+    for number_of in (0..scripts::stretches::FULL_SCRIPTS).step_by(5) {
+        let parts = program::parts(&scripts::stretches::full(number_of));
         let refusals: Vec<u8> = parts.iter().filter_map(run).map(|run| run.1[0]).collect();
         assert_eq!(refusals, [9, 9, 0, 0, 9, 9], "{number_of}");
-        let counter = number_of / stretch_scripts::DISTANCES % field::COUNTERS.len();
+        let counter = number_of / scripts::stretches::DISTANCES % field::COUNTERS.len();
         let at = COUNTERS + 8 * counter;
         for part in parts
             .iter()
@@ -124,14 +125,14 @@ fn full_counters_refuse_where_they_say() {
 fn direct_scripts_have_states_of_every_kind() {
     let (mut ticks, mut refusals, mut halted) = ([0; 7], [0; 10], 0);
     for number_of in 0..400 {
-        let script = direct_scripts::any(number_of);
+        let script = scripts::direct::any(number_of);
         let mut shown = script[..4].to_vec();
-        for part in scripts::parts(&script) {
+        for part in program::parts(&script) {
             let command = part.command.unwrap();
             if matches!(command, Command::Direct | Command::DirectRun(..)) {
                 refusals[usize::from(part.answer[0])] += 1;
                 let before = [&shown[..], &Command::Dump.bytes()].concat();
-                let dump = scripts::parts(&before).pop().unwrap().answer;
+                let dump = program::parts(&before).pop().unwrap().answer;
                 let ir = u16::from_be_bytes([dump[1], dump[2]]);
                 let [tick, execute_ticks, is_halted] = dump[CONTROL..CONTROL + 3] else {
                     panic!("a dump has them")
@@ -153,14 +154,14 @@ fn direct_scripts_have_states_of_every_kind() {
 #[test]
 fn guarded_runs_stop_at_their_bounds() {
     let mut stops = HashSet::new();
-    for number_of in 0..stretch_reports::END_CASES {
+    for number_of in 0..inputs::stretches::END_CASES {
         // The test of the jump on RD is hidden in some of the bodies alone.
         let hangs_on_the_body = number_of / BOUNDS / 3 == OUTS + 4;
         // Each bound with one body of three.
         if hangs_on_the_body || number_of / BOUNDS % 3 != number_of % 3 {
             continue;
         }
-        let inputs = stretch_reports::ends(number_of);
+        let inputs = inputs::stretches::ends(number_of);
         let begun = bound_of(number_of).0 as u64;
         let run = guarded::run(&inputs[1]).expect("it is served");
         assert_eq!(run.executed, begun, "{number_of}");

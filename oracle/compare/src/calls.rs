@@ -2,6 +2,7 @@
 
 use crate::difference;
 use crate::tally::Tally;
+use oracle::lent::pattern;
 
 /// Bytes around the lent ones, to see a call that writes outside of them.
 const GUARD: usize = 64;
@@ -39,12 +40,4 @@ pub fn compare(
         let bytes = difference::describe(&buffer, &wanted, GUARD);
         format!("{question}, {out_len} bytes lent: returned {result}, due {due}; {bytes}")
     });
-}
-
-/// Bytes over 7F, which no text and no padding has, so that a byte written
-/// where it should be kept always shows.
-fn pattern(length: usize) -> Vec<u8> {
-    (0..length)
-        .map(|index| 0x80 | (index * 29 % 127) as u8)
-        .collect()
 }

@@ -1,10 +1,12 @@
 //! What stands at a place of a dump, in words.
 
+use oracle::sizes::{MEMORY_WORDS, REGISTERS, TEXT, TRACE_RECORDS};
+
 /// The parts of a dump that are always as long, in their order.
 const PARTS: [(&str, usize); 15] = [
     ("PC", 1),
     ("IR", 2),
-    ("registers", 32),
+    ("registers", 2 * REGISTERS),
     ("MAR", 1),
     ("MDR", 2),
     ("instruction address", 1),
@@ -12,17 +14,15 @@ const PARTS: [(&str, usize); 15] = [
     ("execute ticks", 1),
     ("halted", 1),
     ("fault", 4),
-    ("counters", 32),
+    ("counters", 4 * 8),
     ("last transfer", 4),
     ("last ALU record", 8),
-    ("image", 2 + 512),
-    ("memory", 512),
+    ("image", 2 + 2 * MEMORY_WORDS),
+    ("memory", 2 * MEMORY_WORDS),
 ];
 
-/// The most addresses and records that a dump shows, and a record's bytes.
-const TOUCHED: usize = 256;
-const TRACE: usize = 512;
-const TRACE_RECORD: usize = 43;
+/// The bytes of a record of the trace: index, address, phase, length and text.
+const TRACE_RECORD: usize = 8 + 1 + 1 + 1 + TEXT;
 
 /// `dump` is a right one: its counts say where the parts behind them begin.
 pub fn place(dump: &[u8], at: usize) -> String {
@@ -40,8 +40,8 @@ pub fn place(dump: &[u8], at: usize) -> String {
 fn parts(dump: &[u8]) -> Vec<(&'static str, usize)> {
     let mut parts = PARTS.to_vec();
     let fixed: usize = parts.iter().map(|(_, length)| length).sum();
-    let touched = 2 + count(dump, fixed).min(TOUCHED);
-    let trace = 2 + count(dump, fixed + touched).min(TRACE) * TRACE_RECORD;
+    let touched = 2 + count(dump, fixed).min(MEMORY_WORDS);
+    let trace = 2 + count(dump, fixed + touched).min(TRACE_RECORDS) * TRACE_RECORD;
     parts.extend([
         ("touched addresses", touched),
         ("trace", trace),
@@ -57,8 +57,8 @@ fn count(dump: &[u8], at: usize) -> usize {
 #[cfg(test)]
 mod tests {
     use super::place;
-    use oracle::commands::Command;
-    use oracle::scripts;
+    use oracle::calls::commands::{script, Command};
+    use oracle::calls::program;
 
     /// The dump of a machine that has run, with a store of seven bytes.
     fn dump() -> Vec<u8> {
@@ -67,9 +67,7 @@ mod tests {
             Command::Run(9, Vec::new()),
             Command::Dump,
         ];
-        let bytes = commands.iter().flat_map(Command::bytes);
-        let script: Vec<u8> = 7u32.to_be_bytes().into_iter().chain(bytes).collect();
-        let parts = scripts::parts(&script);
+        let parts = program::parts(&script(7, &commands));
         parts[2].answer.clone()
     }
 

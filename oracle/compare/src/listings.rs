@@ -4,21 +4,19 @@
 use crate::calls::{self, Outcome};
 use crate::tally::Tally;
 use oracle::random::Random;
+use oracle::sizes::{LISTING_TOO_LONG, LISTING_WORDS};
 use oracle::{disasm, images};
-
-/// The first image length in bytes that holds over 256 whole words.
-pub const TOO_LONG: usize = 514;
 
 pub fn compare(tally: &mut Tally) {
     let mut random = Random::new(0x11_57);
-    for words in 0..=256 {
+    for words in 0..=LISTING_WORDS {
         for _ in 0..3 {
             around(tally, &images::bytes(&images::mixed(&mut random, words)));
         }
         around(tally, &images::bytes(&images::dense(&mut random, words)));
     }
     for _ in 0..2_000 {
-        let words = random.below(257);
+        let words = random.below(LISTING_WORDS + 1);
         around(tally, &images::bytes(&images::dense(&mut random, words)));
     }
     refusals(tally, &mut random);
@@ -27,7 +25,9 @@ pub fn compare(tally: &mut Tally) {
 /// Every image length in bytes up to some past the limit, odd ones among them,
 /// with buffers from none to ample: all refusals, in every company.
 fn refusals(tally: &mut Tally, random: &mut Random) {
-    for length in (0..=520).chain([1_024, 65_535, 65_536, 65_538, 100_000, 131_072]) {
+    for length in
+        (0..=LISTING_TOO_LONG + 6).chain([1_024, 65_535, 65_536, 65_538, 100_000, 131_072])
+    {
         let image: Vec<u8> = (0..length).map(|_| random.byte()).collect();
         around(tally, &image);
         for out_len in [0, 1, 12_000] {
@@ -47,13 +47,13 @@ fn around(tally: &mut Tally, image: &[u8]) {
 /// The listing of the whole words, of which no more than fit into a machine
 /// are looked at: a longer image is refused before its listing matters.
 fn listing(image: &[u8]) -> Vec<u8> {
-    let words = images::whole_words(&image[..image.len().min(TOO_LONG - 1)]);
+    let words = images::whole_words(&image[..image.len().min(LISTING_TOO_LONG - 1)]);
     disasm::disassemble_image(&words).into_bytes()
 }
 
 fn expected(image: &[u8], out_len: usize) -> Outcome {
     let listing = listing(image);
-    if image.len() >= TOO_LONG {
+    if image.len() >= LISTING_TOO_LONG {
         Outcome::refused(1)
     } else if out_len < listing.len() {
         Outcome::refused(5)

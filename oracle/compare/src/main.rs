@@ -17,8 +17,7 @@ mod tally;
 mod words;
 
 use oracle::replays::REPLAYS;
-use oracle::report_lists;
-use oracle::script_lists::FAMILIES;
+use oracle::report::inputs;
 use parts::Parts;
 use std::cell::LazyCell;
 use std::env;
@@ -38,14 +37,14 @@ fn main() -> ExitCode {
             damage::compare(tally, replay, &records)
         });
     }
-    for family in &FAMILIES {
+    for family in &oracle::calls::scripts::FAMILIES {
         parts.part(&format!("massey_calls, {}", family.name), &|tally| {
             scripts::compare(tally, family)
         });
     }
     parts.part("massey_calls, pieces", &scripts::compare_pieces);
     parts.part("listing program, pipes", &pipes::compare);
-    for family in &report_lists::FAMILIES {
+    for family in &inputs::FAMILIES {
         parts.part(&format!("massey_report, {}", family.name), &|tally| {
             reports::compare(tally, family)
         });

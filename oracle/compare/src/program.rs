@@ -1,7 +1,8 @@
 //! Runs one of the port's programs over a pipe.
 
+use crate::tally::Tally;
 use oracle::places;
-use std::io::{self, ErrorKind, Read};
+use std::io::{self, ErrorKind, Read, Write};
 use std::path::PathBuf;
 use std::process::{Child, ChildStdin, Command, Stdio};
 use std::sync::mpsc::{self, RecvTimeoutError};
@@ -11,6 +12,49 @@ use std::time::Duration;
 /// How long a program may take. All are much quicker, and one that does not end
 /// must not hold up the comparison.
 const LONGEST: Duration = Duration::from_secs(120);
+
+/// A run of a program, its input at once or in pieces, and what it must write.
+pub struct Run<'a> {
+    pub program: &'a str,
+    pub input: &'a [u8],
+    /// The bytes of a piece.
+    pub piece: Option<usize>,
+    pub wanted: &'a [u8],
+}
+
+impl Run<'_> {
+    /// Makes the run and compares its whole output; `describe` says how another
+    /// output differs.
+    pub fn compare(
+        &self,
+        tally: &mut Tally,
+        name: impl FnOnce() -> String,
+        describe: impl FnOnce(&[u8]) -> String,
+    ) {
+        let written = run(self.program, |input| match self.piece {
+            Some(piece) => feed(input, self.input, piece),
+            None => input.write_all(self.input),
+        });
+        let same = written.as_ref().is_ok_and(|output| output == self.wanted);
+        tally.check(same, || {
+            let what = written.map_or_else(|error| error, |output| describe(&output));
+            format!("{}, {}: {what}", self.program, name())
+        });
+    }
+}
+
+/// Writes in pieces, and rests now and then so that the program's reads come
+/// back short.
+fn feed(input: &mut ChildStdin, bytes: &[u8], piece: usize) -> io::Result<()> {
+    for (index, part) in bytes.chunks(piece).enumerate() {
+        input.write_all(part)?;
+        input.flush()?;
+        if index < 3 || index % 64 == 0 {
+            thread::sleep(Duration::from_micros(200));
+        }
+    }
+    Ok(())
+}
 
 /// Starts the program, lets `feed` write its input, and gives what it wrote to
 /// standard output. A message to standard error or a bad end is an error.

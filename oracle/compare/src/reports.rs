@@ -1,13 +1,11 @@
 //! `massey_report`: every input through the program, byte by byte.
 
+use crate::difference;
+use crate::program::Run;
 use crate::scripts::every;
 use crate::tally::Tally;
-use crate::{difference, pipes, program};
-use oracle::report_lists::{Family, FAMILIES};
-use oracle::report_program;
-use std::io::Write;
-
-pub const PROGRAM: &str = "massey_report";
+use oracle::report::inputs::{Family, FAMILIES};
+use oracle::report::{self, bytes};
 
 /// How the input comes in pieces, and of how many cases in each family.
 const PIECES: [usize; 5] = [1, 3, 7, 100, 511];
@@ -15,14 +13,14 @@ const IN_PIECES: usize = 12;
 
 /// The records of a report: kind, name, and length with the kind's byte.
 const RECORDS: [(u8, &str, usize); 8] = [
-    (1, "the head", 13),
-    (2, "a starting word", 37),
-    (3, "a breakpoint", 2),
-    (4, "the trace", 43),
-    (5, "a register", 5),
-    (6, "a final word", 5),
-    (7, "a touched address", 2),
-    (8, "the end", 45),
+    (1, "the head", bytes::HEAD),
+    (2, "a starting word", bytes::STARTING_WORD),
+    (3, "a breakpoint", bytes::BREAKPOINT),
+    (4, "the trace", bytes::TRACE),
+    (5, "a register", bytes::REGISTER),
+    (6, "a final word", bytes::FINAL_WORD),
+    (7, "a touched address", bytes::TOUCHED),
+    (8, "the end", bytes::END),
 ];
 
 pub fn compare(tally: &mut Tally, family: &Family) {
@@ -55,21 +53,18 @@ fn compare_one(
     piece: Option<usize>,
     name: impl FnOnce() -> String,
 ) {
-    let wanted = report_program::answer(input);
-    let written = program::run(PROGRAM, |pipe| match piece {
-        Some(piece) => pipes::feed(pipe, input, piece),
-        None => pipe.write_all(input),
-    });
-    let same = written.as_ref().is_ok_and(|output| *output == wanted);
-    tally.check(same, || {
-        let what = written.map_or_else(|error| error, |output| describe(&output, &wanted));
-        format!("{PROGRAM}, {}: {what}", name())
-    });
+    let run = Run {
+        program: "massey_report",
+        input,
+        piece,
+        wanted: &report::program::answer(input),
+    };
+    run.compare(tally, name, |output| describe(output, run.wanted));
 }
 
 /// Where the answer first differs, and in which record.
 fn describe(found: &[u8], wanted: &[u8]) -> String {
-    let same = found.iter().zip(wanted).take_while(|(a, b)| a == b).count();
+    let same = difference::same(found, wanted);
     let bytes = difference::describe(found, wanted, 0);
     format!("{}: {bytes}", place(wanted, same))
 }
@@ -92,9 +87,9 @@ fn place(answer: &[u8], at: usize) -> String {
 #[cfg(test)]
 mod tests {
     use super::place;
-    use oracle::example_reports::example_14;
-    use oracle::report_bytes::report;
-    use oracle::report_program::refused;
+    use oracle::report::bytes::report;
+    use oracle::report::inputs::examples::example_14;
+    use oracle::report::program::refused;
 
     #[test]
     fn the_records_stand_where_the_report_has_them() {

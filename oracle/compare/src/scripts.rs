@@ -1,12 +1,13 @@
 //! `massey_calls`: every script through the program, byte by byte.
 
+use crate::program::Run;
 use crate::tally::Tally;
-use crate::{dumps, pipes, program};
-use oracle::commands::Command;
-use oracle::script_lists::{Family, FAMILIES};
-use oracle::scripts::{self, Part};
+use crate::{difference, dumps};
+use oracle::calls;
+use oracle::calls::commands::Command;
+use oracle::calls::program::Part;
+use oracle::calls::scripts::{Family, FAMILIES};
 use std::env;
-use std::io::Write;
 
 /// Takes every so many-th script, for a short run.
 const EVERY: &str = "MASSEY_EVERY";
@@ -46,21 +47,19 @@ pub fn every() -> usize {
 /// One script, at once or in pieces.
 fn compare_one(tally: &mut Tally, family: &Family, number: usize, piece: Option<usize>) {
     let script = (family.script)(number);
-    let wanted = scripts::output(&script);
-    let written = program::run("massey_calls", |input| match piece {
-        Some(piece) => pipes::feed(input, &script, piece),
-        None => input.write_all(&script),
-    });
-    let same = written.as_ref().is_ok_and(|output| *output == wanted);
-    tally.check(same, || {
-        let what = written.map_or_else(|error| error, |output| describe(&script, &output));
-        format!("massey_calls, script {} {number}: {what}", family.name)
-    });
+    let run = Run {
+        program: "massey_calls",
+        input: &script,
+        piece,
+        wanted: &calls::program::output(&script),
+    };
+    let name = || format!("script {} {number}", family.name);
+    run.compare(tally, name, |output| describe(&script, output));
 }
 
 /// The first command whose answer differs.
 fn describe(script: &[u8], output: &[u8]) -> String {
-    let parts = scripts::parts(script);
+    let parts = calls::program::parts(script);
     let mut from = 0;
     for (index, part) in parts.iter().enumerate() {
         let to = from + part.answer.len();
@@ -78,8 +77,7 @@ fn describe(script: &[u8], output: &[u8]) -> String {
 fn describe_last(parts: &[Part], found: &[u8]) -> String {
     let part = &parts[parts.len() - 1];
     let shown: Vec<String> = parts.iter().rev().take(COMMANDS).rev().map(name).collect();
-    let same = found.iter().zip(&part.answer).take_while(|(a, b)| a == b);
-    let same = same.count();
+    let same = difference::same(found, &part.answer);
     let place = match part.command {
         Some(Command::Dump) => format!(" ({})", dumps::place(&part.answer, same)),
         _ => String::new(),

@@ -3,11 +3,10 @@
 use crate::calls::{self, Outcome};
 use crate::tally::Tally;
 use oracle::disasm;
+use oracle::sizes::TEXT;
 
-/// The bytes that a text takes.
-const TEXT: usize = 32;
-const LONG_ENOUGH: [usize; 5] = [32, 33, 39, 64, 200];
-const TOO_SHORT: [usize; 3] = [0, 1, 31];
+const LONG_ENOUGH: [usize; 5] = [TEXT, TEXT + 1, 39, 64, 200];
+const TOO_SHORT: [usize; 3] = [0, 1, TEXT - 1];
 
 pub fn compare(tally: &mut Tally) {
     for word in 0..=u16::MAX {

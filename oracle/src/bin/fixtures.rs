@@ -2,9 +2,7 @@
 //! sample image with its listing; or prints a list.
 
 use oracle::replays::{Replay, REPLAYS};
-use oracle::script_lists::FAMILIES;
-use oracle::{places, record, report_lists, report_program, report_sample};
-use oracle::{sample, sample_script, scripts};
+use oracle::{calls, places, record, report, words};
 use std::io::Write;
 use std::path::{Path, PathBuf};
 use std::process::ExitCode;
@@ -24,12 +22,12 @@ fn main() -> ExitCode {
         ["--list", program, "FULL"] => print(program, |replay| replay.full),
         ["--script", family, number] => print_script(family, number, |script| script),
         ["--answer", family, number] => {
-            print_script(family, number, |script| scripts::output(&script))
+            print_script(family, number, |script| calls::program::output(&script))
         }
         ["--report", family, number, input] => print_report(family, number, input, |input| input),
         ["--report-answer", family, number, input] => {
             print_report(family, number, input, |input| {
-                report_program::answer(&input)
+                report::program::answer(&input)
             })
         }
         _ => Err(io::Error::other(USAGE)),
@@ -53,17 +51,17 @@ fn write(crates: &Path) -> io::Result<()> {
     }
     write_program(
         &crates.join("massey_listing"),
-        &sample::image(),
-        sample::listing().as_bytes(),
+        &words::sample::image(),
+        words::sample::listing().as_bytes(),
     )?;
-    let script = sample_script::script();
+    let script = calls::scripts::sample::script();
     write_program(
         &crates.join("massey_calls"),
         &script,
-        &scripts::output(&script),
+        &calls::program::output(&script),
     )?;
-    let input = report_program::bytes(&report_sample::invented());
-    let answer = report_program::answer(&input);
+    let input = report::program::bytes(&report::inputs::sample::invented());
+    let answer = report::program::answer(&input);
     write_program(&crates.join("massey_report"), &input, &answer)
 }
 
@@ -84,7 +82,9 @@ fn print(program: &str, list: fn(&Replay) -> fn() -> Vec<record::Record>) -> io:
 
 /// A script of `massey_calls`, as `compare` names it, or what is due for it.
 fn print_script(family: &str, number: &str, form: fn(Vec<u8>) -> Vec<u8>) -> io::Result<()> {
-    let family = FAMILIES.iter().find(|one| one.name == family);
+    let family = calls::scripts::FAMILIES
+        .iter()
+        .find(|one| one.name == family);
     let number = number.parse().ok();
     let (Some(family), Some(number)) = (family, number) else {
         return Err(io::Error::other(USAGE));
@@ -104,7 +104,9 @@ fn print_report(
     input: &str,
     form: fn(Vec<u8>) -> Vec<u8>,
 ) -> io::Result<()> {
-    let family = report_lists::FAMILIES.iter().find(|one| one.name == family);
+    let family = report::inputs::FAMILIES
+        .iter()
+        .find(|one| one.name == family);
     let (Some(family), Ok(number), Ok(input)) =
         (family, number.parse::<usize>(), input.parse::<usize>())
     else {

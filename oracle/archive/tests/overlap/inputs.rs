@@ -1,18 +1,18 @@
 //! What the calls are given. All of it is invented; a hidden word has a value
 //! that is known again wherever it shows.
 
-use oracle::example_reports::{example_11, longest_hidden_report};
-use oracle::guarded::{Input, BREAKPOINTS};
+use oracle::images;
 use oracle::random::Random;
-use oracle::report_bytes::LONGEST;
-use oracle::report_program::bytes;
-use oracle::report_sample::invented;
-use oracle::{images, refused_reports};
+use oracle::report::bytes::LONGEST;
+use oracle::report::guarded::Input;
+use oracle::report::inputs::examples::{example_11, longest_hidden_report};
+use oracle::report::inputs::refused;
+use oracle::report::inputs::sample::invented;
+use oracle::report::program::bytes;
+use oracle::sizes::{BREAKPOINTS, LISTING_WORDS, MEMORY_WORDS};
 
-/// The bytes of a text.
-pub const TEXT: usize = 32;
-/// The most words of an image.
-const WORDS: usize = 256;
+/// The first hidden word of those whose upper half is hidden.
+const HALF: usize = MEMORY_WORDS / 2;
 /// Enough for every listing.
 const LISTING: usize = 11_709;
 
@@ -40,11 +40,11 @@ pub fn hidden(input: &Input) -> Vec<u16> {
 /// again. No breakpoint is met.
 fn looping() -> Input {
     let mut image = vec![0x3180, 0x3281, 0x6312, 0x43FF, 0x4440, 0xD000];
-    image.resize(WORDS / 2, 0x1234);
-    image.extend((0x80..WORDS as u16).map(|at| 0x5E00 | at));
+    image.resize(HALF, 0x1234);
+    image.extend((HALF..MEMORY_WORDS).map(|at| 0x5E00 | at as u16));
     Input {
         image,
-        marks: (0..WORDS).map(|at| u8::from(at >= WORDS / 2)).collect(),
+        marks: (0..MEMORY_WORDS).map(|at| u8::from(at >= HALF)).collect(),
         budget: 1_000,
         breakpoints: vec![0x7F; BREAKPOINTS],
     }
@@ -54,16 +54,18 @@ fn looping() -> Input {
 /// byte is 00 or 01, which a report has as a mark behind an index.
 fn all_hidden() -> Input {
     Input {
-        image: (0..WORDS as u16).map(|at| 0x5F80 | at).collect(),
-        marks: vec![1; WORDS],
+        image: (0..MEMORY_WORDS as u16).map(|at| 0x5F80 | at).collect(),
+        marks: vec![1; MEMORY_WORDS],
         budget: 9,
         breakpoints: Vec::new(),
     }
 }
 
-/// Refused inputs, with the number that is due and the output's length.
-pub fn refused_reports() -> Vec<(i64, Vec<u8>, usize)> {
-    let offending = |choice| bytes(&refused_reports::offending(choice));
+/// The number that is due, the input, and the output's length.
+pub type Refused = (i64, Vec<u8>, usize);
+
+pub fn refused_reports() -> Vec<Refused> {
+    let offending = |choice| bytes(&refused::offending(choice));
     let whole = bytes(&looping());
     let longer = [&whole[..], &[0]].concat();
     let far_longer = [&whole[..], &vec![0; LONGEST]].concat();
@@ -82,15 +84,14 @@ pub fn refused_reports() -> Vec<(i64, Vec<u8>, usize)> {
 /// Images whose listings are short and long, with labels on their own words.
 pub fn images() -> Vec<Vec<u16>> {
     let mut random = Random::new(0x0E_71A9);
-    let mut images: Vec<Vec<u16>> = [1, 2, 17, 255, 256]
+    let mut images: Vec<Vec<u16>> = [1, 2, 17, LISTING_WORDS - 1, LISTING_WORDS]
         .map(|words| images::dense(&mut random, words))
         .to_vec();
-    images.push(images::mixed(&mut random, WORDS));
+    images.push(images::mixed(&mut random, LISTING_WORDS));
     images
 }
 
-/// Refused images, with the number that is due and the output's length.
-pub fn refused_listings() -> Vec<(i64, Vec<u8>, usize)> {
+pub fn refused_listings() -> Vec<Refused> {
     let mut image = images::bytes(&looping().image);
     let short = (5, image.clone(), LISTING / 2);
     image.push(0);

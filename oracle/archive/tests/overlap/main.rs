@@ -7,8 +7,11 @@ mod inputs;
 mod places;
 
 use driver::{ask, Answer, Call, Question};
-use oracle::report_bytes::LONGEST;
-use oracle::report_program;
+use inputs::Refused;
+use oracle::lent;
+use oracle::report::bytes::LONGEST;
+use oracle::report::program;
+use oracle::sizes::TEXT;
 use oracle::{disasm, images};
 
 /// How many differences of one input are shown.
@@ -28,14 +31,14 @@ struct Case {
 
 /// The case as a call with separate buffers has it.
 fn separate(name: &str, call: Call, input: &[u8], out_len: usize) -> Case {
-    let mut out = places::pattern(out_len);
+    let mut out = lent::pattern(out_len);
     let number = match call {
         Call::Disassemble => archive::disassemble(images::whole_words(input)[0], &mut out),
         Call::Listing => archive::listing(input, &mut out),
         Call::Report => archive::report(input, &mut out),
     };
     let length = match call {
-        Call::Disassemble if number > 0 => inputs::TEXT,
+        Call::Disassemble if number > 0 => TEXT,
         _ => number.max(0) as usize,
     };
     Case {
@@ -127,10 +130,20 @@ fn told(case: &Case) -> String {
     told
 }
 
+/// The cases of inputs that are refused so.
+fn refused(call: Call, inputs: &[Refused]) -> Vec<Case> {
+    let case = |(number, input, out_len): &Refused| {
+        let case = separate(&format!("refused {number}"), call, input, *out_len);
+        assert_eq!(case.number, -number);
+        case
+    };
+    inputs.iter().map(case).collect()
+}
+
 /// A report's case, held to the model before anything overlaps.
 fn report(name: &str, input: &[u8], out_len: usize) -> Case {
     let case = separate(name, Call::Report, input, out_len);
-    assert_eq!(case.written, report_program::answer(input), "{name}");
+    assert_eq!(case.written, program::answer(input), "{name}");
     case
 }
 
@@ -139,7 +152,7 @@ fn reports() {
     let cases: Vec<Case> = inputs::reports()
         .iter()
         .flat_map(|(name, input)| {
-            let bytes = report_program::bytes(input);
+            let bytes = program::bytes(input);
             [LONGEST, LONGEST + 2_000].map(|out_len| Case {
                 hidden: inputs::hidden(input),
                 ..report(name, &bytes, out_len)
@@ -157,15 +170,7 @@ fn reports() {
 
 #[test]
 fn refused_reports() {
-    let cases: Vec<Case> = inputs::refused_reports()
-        .iter()
-        .map(|(number, input, out_len)| {
-            let case = separate(&format!("refused {number}"), Call::Report, input, *out_len);
-            assert_eq!(case.number, -number);
-            case
-        })
-        .collect();
-    all_same(&cases);
+    all_same(&refused(Call::Report, &inputs::refused_reports()));
 }
 
 #[test]
@@ -188,16 +193,7 @@ fn listings() {
 
 #[test]
 fn refused_listings() {
-    let cases: Vec<Case> = inputs::refused_listings()
-        .iter()
-        .map(|(number, image, out_len)| {
-            let name = format!("refused {number}");
-            let case = separate(&name, Call::Listing, image, *out_len);
-            assert_eq!(case.number, -number);
-            case
-        })
-        .collect();
-    all_same(&cases);
+    all_same(&refused(Call::Listing, &inputs::refused_listings()));
 }
 
 /// The call reads no bytes: its word is taken from the output before the call.

@@ -1,12 +1,15 @@
 //! Where an input lies to an output, and the region that holds both.
 
 use crate::driver::{Call, Question};
+use oracle::lent::pattern;
+use oracle::report::bytes::{HEAD, STARTING_WORD};
+use oracle::sizes::MEMORY_WORDS;
 use std::collections::BTreeSet;
 
 /// Bytes around both, to see a call that writes outside of its output.
 const GUARD: usize = 64;
 /// In a report, where what follows the starting words begins.
-const BEHIND_THE_WORDS: isize = 9_485;
+const BEHIND_THE_WORDS: isize = (HEAD + MEMORY_WORDS * STARTING_WORD) as isize;
 /// Every place up to here, and then every so many-th, so that an input lies in
 /// every part of a record.
 const EACH_TO: isize = 60;
@@ -37,11 +40,4 @@ pub fn question(call: Call, input: &[u8], out_len: usize, place: isize) -> Quest
         input: from..from + input.len(),
         out: room..room + out_len,
     }
-}
-
-/// Bytes over 7F, which no text and no padding has.
-pub fn pattern(length: usize) -> Vec<u8> {
-    (0..length)
-        .map(|index| 0x80 | (index * 29 % 127) as u8)
-        .collect()
 }

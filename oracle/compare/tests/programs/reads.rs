@@ -4,11 +4,14 @@
 //! many bytes came that they decide the answer, no more is read.
 
 use crate::run::{command, output, path, same, shell};
-use oracle::commands::Command as Call;
-use oracle::example_reports::longest_report;
-use oracle::report_program::{answer, bytes, refused, DECIDING};
-use oracle::report_sample::invented;
-use oracle::{disasm, images, sample, sample_script, scripts};
+use oracle::calls::commands::{script, Command as Call};
+use oracle::calls::{program, scripts};
+use oracle::report::inputs::examples::longest_report;
+use oracle::report::inputs::sample::invented;
+use oracle::report::program::{answer, bytes, refused, DECIDING};
+use oracle::sizes::{LISTING_TOO_LONG, LISTING_WORDS};
+use oracle::words::sample;
+use oracle::{disasm, images};
 use std::fs::File;
 use std::io::Write;
 use std::os::fd::OwnedFd;
@@ -20,9 +23,6 @@ const PROGRAMS: [(&str, &[u8]); 3] = [
     ("massey_listing", b"refused 6\n"),
     ("massey_calls", b"\xFF"),
 ];
-/// So many bytes decide every answer of the listing program: a word more than an
-/// image may have.
-const LISTING_DECIDING: usize = 514;
 
 /// What a program writes that is given these bytes, and whose next read fails:
 /// nothing more is there, and its end of the line does not wait.
@@ -79,15 +79,15 @@ fn as_many_bytes_come_as_decide_a_report() {
     let mut input = vec![0xFF; DECIDING];
     assert_eq!(answer(&input), refused(1));
     let decided = failing_after("massey_report", &input);
-    same(&decided, b"refused 1\n", "massey_report, 1,037 bytes");
+    same(&decided, b"refused 1\n", "massey_report, as many as decide");
     input.pop();
     let cut = failing_after("massey_report", &input);
-    same(&cut, b"refused 6\n", "massey_report, 1,036 bytes");
+    same(&cut, b"refused 6\n", "massey_report, one byte less");
 }
 
 #[test]
 fn a_whole_image_comes() {
-    let longest = images::bytes(&[0xE000; 256]);
+    let longest = images::bytes(&[0xE000; LISTING_WORDS]);
     for image in [sample::image(), longest] {
         let listing = disasm::disassemble_image(&images::whole_words(&image));
         assert!(!listing.is_empty(), "it is one by itself");
@@ -99,7 +99,10 @@ fn a_whole_image_comes() {
 
 #[test]
 fn as_many_bytes_come_as_decide_a_listing() {
-    for (length, due) in [(LISTING_DECIDING, "refused 1\n"), (513, "refused 6\n")] {
+    for (length, due) in [
+        (LISTING_TOO_LONG, "refused 1\n"),
+        (LISTING_TOO_LONG - 1, "refused 6\n"),
+    ] {
         let written = failing_after("massey_listing", &vec![0x41; length]);
         let what = format!("massey_listing, {length} bytes");
         same(&written, due.as_bytes(), &what);
@@ -108,9 +111,9 @@ fn as_many_bytes_come_as_decide_a_listing() {
 
 #[test]
 fn a_whole_script_comes() {
-    let new = [&0u32.to_be_bytes()[..], &Call::New.bytes()].concat();
-    for script in [new, sample_script::script()] {
-        assert_ne!(scripts::output(&script), b"\xFF", "it is one by itself");
+    let new = script(0, &[Call::New]);
+    for script in [new, scripts::sample::script()] {
+        assert_ne!(program::output(&script), b"\xFF", "it is one by itself");
         let written = failing_after("massey_calls", &script);
         let what = format!("massey_calls, {} bytes", script.len());
         same(&written, b"\xFF", &what);

@@ -2,14 +2,15 @@
 //! inputs and with such as are refused.
 
 use crate::run::{command, input, output, path, same, shell};
-use oracle::example_reports::{longest_hidden_report, longest_report, marks_at};
-use oracle::guarded::{Input, BREAKPOINTS, LARGEST_BUDGET};
 use oracle::random::Random;
-use oracle::report_bytes::LONGEST;
-use oracle::report_program::{answer, bytes};
-use oracle::{disasm, images, refused_reports};
+use oracle::report::bytes::LONGEST;
+use oracle::report::guarded::Input;
+use oracle::report::inputs::examples::{longest_hidden_report, longest_report, marks_at};
+use oracle::report::inputs::refused;
+use oracle::report::program::{answer, bytes};
+use oracle::sizes::{BREAKPOINTS, LARGEST_BUDGET, LISTING_TOO_LONG, LISTING_WORDS, MEMORY_WORDS};
+use oracle::{disasm, images};
 
-const WORDS: usize = 256;
 const IN_160_KB: &str = "ulimit -s 160 && exec \"$0\"";
 
 /// Holds the program to what is due, with the usual stack and with the small
@@ -37,7 +38,7 @@ fn longest_run() -> Input {
         0x3306, 0x6332, 0xA336, 0xB337, 0x4306, // the store's
         0xD005, 0x31FF, 0x3100, 0x41FF, 0x4100,
     ];
-    image.resize(WORDS, 0x5EC7);
+    image.resize(MEMORY_WORDS, 0x5EC7);
     Input {
         image,
         marks: marks_at(&[0x80]),
@@ -70,7 +71,7 @@ fn refused_reports() {
     let whole = bytes(&longest_run());
     let longer = [&whole[..], &[0; 1_000]].concat();
     let mut inputs = vec![Vec::new(), whole[..whole.len() - 1].to_vec(), longer];
-    inputs.extend([1, 2, 4, 8, 15].map(|choice| bytes(&refused_reports::offending(choice))));
+    inputs.extend([1, 2, 4, 8, 15].map(|choice| bytes(&refused::offending(choice))));
     let due: Vec<Vec<u8>> = inputs.iter().map(|input| answer(input)).collect();
     for number in [1, 2, 3, 4, 6] {
         let line = format!("refused {number}\n").into_bytes();
@@ -85,8 +86,8 @@ fn refused_reports() {
 #[test]
 fn the_longest_listings() {
     let mut random = Random::new(0x57_AC4);
-    let dense = images::dense(&mut random, WORDS);
-    for words in [dense, images::mixed(&mut random, WORDS), Vec::new()] {
+    let dense = images::dense(&mut random, LISTING_WORDS);
+    for words in [dense, images::mixed(&mut random, LISTING_WORDS), Vec::new()] {
         let due = disasm::disassemble_image(&words).into_bytes();
         let what = format!("{} words", words.len());
         runs("massey_listing", &images::bytes(&words), &due, &what);
@@ -96,8 +97,8 @@ fn the_longest_listings() {
 #[test]
 fn refused_listings() {
     for (length, due) in [
-        (513, "refused 6\n"),
-        (514, "refused 1\n"),
+        (LISTING_TOO_LONG - 1, "refused 6\n"),
+        (LISTING_TOO_LONG, "refused 1\n"),
         (4_000, "refused 1\n"),
     ] {
         let what = format!("{length} bytes");

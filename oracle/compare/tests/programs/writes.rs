@@ -3,10 +3,12 @@
 //! what comes out is the beginning of what it has to say.
 
 use crate::run::{command, end, input, path, read};
-use oracle::commands::Command as Call;
-use oracle::example_reports::longest_report;
-use oracle::report_program::{answer, bytes};
-use oracle::{disasm, images, scripts};
+use oracle::calls::commands::{script, Command as Call};
+use oracle::calls::program;
+use oracle::report::inputs::examples::longest_report;
+use oracle::report::program::{answer, bytes};
+use oracle::sizes::{LISTING_WORDS, MEMORY_WORDS};
+use oracle::{disasm, images};
 use std::ffi::c_int;
 use std::io::{self, PipeReader, PipeWriter, Read};
 use std::os::fd::AsRawFd;
@@ -76,17 +78,12 @@ fn is_beginning(found: &[u8], whole: &[u8], what: &str) {
     );
 }
 
-fn script(commands: &[Call]) -> Vec<u8> {
-    let bytes = commands.iter().flat_map(Call::bytes);
-    0u32.to_be_bytes().into_iter().chain(bytes).collect()
-}
-
 #[test]
 fn the_beginning_of_a_report_and_of_a_listing() {
     let report = bytes(&longest_report());
     let written = unread("massey_report", &report);
     is_beginning(&written, &answer(&report), "massey_report");
-    let words = [0xE000; 256];
+    let words = [0xE000; LISTING_WORDS];
     let listing = disasm::disassemble_image(&words).into_bytes();
     let written = unread("massey_listing", &images::bytes(&words));
     is_beginning(&written, &listing, "massey_listing");
@@ -96,25 +93,28 @@ fn the_beginning_of_a_report_and_of_a_listing() {
 /// pipe none of it is taken; there is still room for the single bytes behind it.
 #[test]
 fn no_short_answer_stands_behind_a_failed_long_one() {
-    let mut calls = vec![Call::Load(vec![0x3110; 256])];
+    let mut calls = vec![Call::Load(vec![0x3110; MEMORY_WORDS])];
     calls.extend(vec![Call::Step; 64]);
     calls.extend(vec![Call::Reset; 100]);
-    let script = script(&calls);
+    let script = script(0, &calls);
     let written = unread("massey_calls", &script);
-    is_beginning(&written, &scripts::output(&script), "massey_calls");
+    is_beginning(&written, &program::output(&script), "massey_calls");
 }
 
 /// Dumps, read slower than they are made: there is room again and again.
 #[test]
 fn nothing_is_missing_between_dumps() {
-    let mut calls = vec![Call::Load(vec![0x3110; 256]), Call::Run(600, Vec::new())];
+    let mut calls = vec![
+        Call::Load(vec![0x3110; MEMORY_WORDS]),
+        Call::Run(600, Vec::new()),
+    ];
     calls.extend(vec![Call::Dump; 1_000]);
-    let script = script(&calls);
+    let script = script(0, &calls);
     let (child, reader) = started("massey_calls", &script);
     let written = slowly(reader);
     let status = end(child);
     assert!(status.code().is_some(), "it ends by itself: {status}");
-    is_beginning(&written, &scripts::output(&script), "massey_calls");
+    is_beginning(&written, &program::output(&script), "massey_calls");
 }
 
 /// All bytes to the end, a page at a time.

@@ -1,0 +1,167 @@
+//! All inputs that `massey_report` is held to, by family. A case is one input,
+//! or several that belong together; it is made from its number, so that any
+//! one can be made alone.
+
+pub mod examples;
+pub mod opcodes;
+pub mod pairs;
+pub mod programs;
+pub mod random;
+pub mod refused;
+pub mod sample;
+pub mod stops;
+pub mod stretches;
+
+use crate::report::guarded::Input;
+use crate::report::program::bytes;
+use std::collections::HashSet;
+use std::sync::LazyLock;
+
+pub struct Family {
+    pub name: &'static str,
+    /// How many cases it has.
+    pub count: fn() -> usize,
+    /// What the program reads, once for each input of the case.
+    pub inputs: fn(usize) -> Vec<Vec<u8>>,
+    pub relation: Relation,
+}
+
+/// What holds between the answers of one case.
+#[derive(Clone, Copy, Debug, PartialEq, Eq)]
+pub enum Relation {
+    /// Nothing.
+    Free,
+    /// They are reports, and all the same.
+    Same,
+    /// They are reports, and none is the first.
+    Different,
+}
+
+pub const FAMILIES: [Family; 20] = [
+    free(
+        "sample",
+        || sample::inputs().len(),
+        |number| vec![sample::inputs()[number].clone()],
+    ),
+    free(
+        "examples",
+        || examples::all().len(),
+        |number| vec![bytes(&examples::all()[number])],
+    ),
+    free(
+        "long",
+        || examples::long_runs().len(),
+        |number| vec![bytes(&examples::long_runs()[number])],
+    ),
+    free(
+        "opcodes",
+        || opcodes::OPCODE_CASES,
+        |number| all_bytes(&opcodes::one(number)),
+    ),
+    free(
+        "behind_a_load",
+        || 1,
+        |_| all_bytes(&opcodes::behind_a_load()),
+    ),
+    free("each_mark", || 1, |_| all_bytes(&opcodes::each_mark())),
+    free("stops", || 1, |_| all_bytes(&stops::stops())),
+    free("registers", || 1, |_| all_bytes(&stops::registers())),
+    free("addresses", || 1, |_| all_bytes(&stops::addresses())),
+    free(
+        "random",
+        || random::RANDOM_INPUTS,
+        |number| vec![bytes(&random::any(number))],
+    ),
+    free(
+        "budgets",
+        || random::BUDGET_PROGRAMS,
+        |number| all_bytes(&random::every_budget(number)),
+    ),
+    free(
+        "refused",
+        || all_refused().len(),
+        |number| vec![all_refused()[number].clone()],
+    ),
+    free(
+        "lengths",
+        || all_lengths().len(),
+        |number| vec![all_lengths()[number].clone()],
+    ),
+    free(
+        "damaged",
+        || refused::DAMAGED_INPUTS,
+        |number| vec![refused::damaged(number)],
+    ),
+    Family {
+        name: "hidden",
+        count: || pairs::HIDDEN_CASES,
+        inputs: |number| all_bytes(&pairs::hidden(number)),
+        relation: Relation::Same,
+    },
+    Family {
+        name: "open",
+        count: || pairs::OPEN_CASES,
+        inputs: |number| all_bytes(&pairs::open(number)),
+        relation: Relation::Different,
+    },
+    Family {
+        name: "values",
+        count: || 256,
+        inputs: |number| all_bytes(&pairs::values(0, number)),
+        relation: Relation::Same,
+    },
+    // A few of their values; the model is asked for all of them.
+    Family {
+        name: "more_values",
+        count: || 4 * (pairs::VALUE_PROGRAMS - 1),
+        inputs: |number| all_bytes(&pairs::values(1 + number / 4, number % 4 * 85)),
+        relation: Relation::Same,
+    },
+    free(
+        "stretch_ends",
+        || stretches::END_CASES,
+        |number| all_bytes(&stretches::ends(number)),
+    ),
+    Family {
+        name: "stretch_random",
+        count: || stretches::RANDOM_CASES,
+        inputs: |number| all_bytes(&stretches::any(number)),
+        relation: Relation::Same,
+    },
+];
+
+/// A family whose inputs have nothing to do with each other.
+const fn free(
+    name: &'static str,
+    count: fn() -> usize,
+    inputs: fn(usize) -> Vec<Vec<u8>>,
+) -> Family {
+    Family {
+        name,
+        count,
+        inputs,
+        relation: Relation::Free,
+    }
+}
+
+fn all_bytes(inputs: &[Input]) -> Vec<Vec<u8>> {
+    inputs.iter().map(bytes).collect()
+}
+
+fn all_refused() -> &'static [Vec<u8>] {
+    static ALL: LazyLock<Vec<Vec<u8>>> =
+        LazyLock::new(|| unique([refused::bounds(), refused::companies()].concat()));
+    &ALL
+}
+
+fn all_lengths() -> &'static [Vec<u8>] {
+    static ALL: LazyLock<Vec<Vec<u8>>> = LazyLock::new(|| unique(refused::lengths()));
+    &ALL
+}
+
+/// Each input once: inputs that are cut before they differ are the same.
+fn unique(inputs: Vec<Vec<u8>>) -> Vec<Vec<u8>> {
+    let mut seen = HashSet::new();
+    let is_new = |input: &Vec<u8>| seen.insert(input.clone());
+    inputs.into_iter().filter(is_new).collect()
+}

@@ -1,0 +1,150 @@
+//! Guarded runs that meet something hidden, end, or change what they come to,
+//! around the ends of stretches of 256 instructions.
+
+use crate::countdowns::{self, bound, bound_of, countdown, Body, Out};
+use crate::countdowns::{BOUNDS, IDLE_WORD, LOOP, OUT, OUTS};
+use crate::programs::{HALT, IDLE, JUMP};
+use crate::random::Random;
+use crate::report::guarded::Input;
+use crate::report::inputs::examples::input;
+use crate::report::inputs::pairs;
+use crate::report::inputs::programs;
+use crate::sizes::BREAKPOINTS;
+
+/// More than any of these runs begins before its end.
+const AMPLE: u64 = 5_000;
+/// A hidden word that the bodies leave alone, and one that they move.
+const HIDDEN: u16 = countdowns::VALUES + 4;
+const MOVED: u16 = countdowns::VALUES;
+
+// -- bodies -----------------------------------------------------------------
+
+/// A mark through registers and a word; R9 and the word are open again at the
+/// turn's end, RA to RD are hidden.
+const MOVING: Body = &[
+    0x3988, 0x20A9, 0x6BA3, 0xCCBB, 0x70C0, 0x8C01, 0x4C89, 0x3D89, 0x1905, 0x4989,
+];
+
+/// Four words change places, of which one is hidden, and what the first of them
+/// held goes on from R8 to RD: where the marks are tells the number of turns.
+const ROTATING: Body = &[
+    0x3388, 0x3489, 0x358A, 0x368B, 0x4389, 0x448A, 0x458B, 0x4688, 0x20DC, 0x20CB, 0x20BA, 0x20A9,
+    0x2098, 0x2083,
+];
+
+const BODIES: [Body; 3] = [MOVING, ROTATING, countdowns::SWEEPING];
+
+// -- chosen ends ------------------------------------------------------------
+
+/// What a countdown comes to, and the marks that are there besides.
+struct Met {
+    out: Out,
+    marked: Vec<u8>,
+}
+
+/// Those of the plain runs, and ten with something hidden.
+const MEETINGS: usize = OUTS + 10;
+
+fn met(number: usize, body: &[u16]) -> Met {
+    match number.checked_sub(OUTS) {
+        None => Met {
+            out: countdowns::out(number, body),
+            marked: Vec::new(),
+        },
+        Some(number) => hidden(number, body),
+    }
+}
+
+/// Hidden words that are come to, hidden tests of jumps, and marks that a store
+/// sets or takes away right before.
+fn hidden(number: usize, body: &[u16]) -> Met {
+    let load = |register: u16| 0x3000 | register << 8 | HIDDEN;
+    let (over, turn) = (OUT + 2, body.len());
+    let (words, more, marked) = match number {
+        0 => (vec![HALT], 0, vec![OUT]),
+        // A jump on what is hidden, on R0 where it is, and one that tells nothing.
+        1 => (vec![load(9), 0xD900 | (OUT + 3), HALT, HALT], 1, vec![]),
+        2 => (vec![load(0), 0xD300 | (OUT + 3), HALT, HALT], 1, vec![]),
+        3 => (vec![load(0), JUMP | (OUT + 3), 0, HALT], 3, vec![]),
+        // Most of the bodies have hidden RD.
+        4 => (vec![0xDD00 | (OUT + 2), IDLE, HALT], 0, vec![]),
+        5 => (vec![load(9), 0x4900 | over, HALT], 2, vec![]),
+        6 => (
+            vec![0x3300 | IDLE_WORD, 0x4300 | over, HALT, HALT],
+            4,
+            vec![over],
+        ),
+        // Back into the loop: its last word, its count or its first word is hidden.
+        7 => (countdowns::over_jump_back(load(3), body), turn + 5, vec![]),
+        8 => (vec![load(9), 0x6119, JUMP | LOOP], turn + 4, vec![]),
+        _ => (vec![load(9), 0x4900 | LOOP, JUMP | LOOP], 3, vec![]),
+    };
+    Met {
+        out: Out {
+            words,
+            more,
+            breakpoint: None,
+        },
+        marked: marked.into_iter().map(|address| address as u8).collect(),
+    }
+}
+
+pub const END_CASES: usize = BOUNDS * MEETINGS * BODIES.len();
+
+/// One program that ends at a bound, with 0, 1 and 256 breakpoints, and with
+/// budgets around its end.
+pub fn ends(number: usize) -> Vec<Input> {
+    let (begun, rest) = bound_of(number);
+    let body = BODIES[rest % BODIES.len()];
+    let met = met(rest / BODIES.len(), body);
+    let plain = meeting(begun, body, &met);
+    let breakpoints = countdowns::breakpoint_lists(&met.out, number);
+    let by_breakpoints = breakpoints.map(|breakpoints| Input {
+        breakpoints,
+        ..plain.clone()
+    });
+    let begun = begun as u64;
+    let by_budgets = [begun - 1, begun, begun + 1].map(|budget| Input {
+        budget,
+        ..plain.clone()
+    });
+    by_breakpoints.into_iter().chain(by_budgets).collect()
+}
+
+/// A program that has begun so many instructions at its end.
+fn meeting(begun: usize, body: &[u16], met: &Met) -> Input {
+    let image = countdown(begun - met.out.more, body, &met.out.words);
+    let marked = [&met.marked[..], &[HIDDEN as u8, MOVED as u8]].concat();
+    input(&image, &marked, AMPLE)
+}
+
+// -- by chance --------------------------------------------------------------
+
+pub const RANDOM_CASES: usize = 3_000;
+
+/// A loop by chance over hidden and open words, which ends at a bound in any
+/// way or spends its budget around it; and the same with other hidden words.
+pub fn any(number: usize) -> Vec<Input> {
+    let mut random = Random::new(0x57E7_C400_0000 + number as u64);
+    let random = &mut random;
+    let begun = bound(random.below(BOUNDS));
+    let body = programs::turn(random, 8, MOVED.into());
+    let met = met(random.below(MEETINGS), &body);
+    let mut input = meeting(begun, &body, &met);
+    for mark in &mut input.marks[MOVED.into()..HIDDEN.into()] {
+        *mark = random.below(2) as u8;
+    }
+    if random.below(2) == 0 {
+        input.budget = begun as u64 + 3 - random.below(7) as u64;
+    }
+    let place = random.below(BREAKPOINTS);
+    let [_, one, many] = countdowns::breakpoint_lists(&met.out, place);
+    input.breakpoints = match random.below(4) {
+        0 => one,
+        1 => many,
+        2 => vec![random.byte()],
+        _ => Vec::new(),
+    };
+    let other = pairs::with_other_hidden(random, &input);
+    vec![input, other]
+}
