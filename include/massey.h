@@ -8,7 +8,8 @@
  * touches those of out during the call. The input and out may overlap: the
  * answer and the bytes of out are those of separate buffers. A call keeps
  * nothing, allocates nothing, and needs MASSEY_STACK bytes of stack. Words and
- * other numbers in bytes are high byte first. */
+ * other numbers in bytes are high byte first. docs/FORMATS.md has what is read
+ * and written byte by byte, with offsets and examples. */
 #ifndef MASSEY_H
 #define MASSEY_H
 
@@ -72,7 +73,8 @@ enum massey_mark {
 };
 
 /* ---- records of a report: a kind byte, and a body whose length goes by the
- * kind. They stand in the order of their kinds. */
+ * kind. They stand in the order of their kinds. docs/FORMATS.md, 'The report',
+ * has their offsets. */
 enum massey_record {
     MASSEY_RECORD_HEAD = 0x01,       /* image length 2, budget 8, breakpoint
                                         count 2 */
