@@ -7,6 +7,7 @@ use mathlib.Core.Bool.{Bool, true, false, cond, _&&_}
 use lib.Dec.{leb, ltb, eqb}
 use borrow.Author.Tests.{leb-true, eqb-true, le-leb, le-ltb, lt-ltb, eq-eqb, ne-eqb}
 use Rattle.isa.specs.Word.{decodeWord}
+use Rattle.isa.proofs.Truths.{both}
 use Rattle.plan.specs.Plan.{executeTicks}
 use Rattle.control.specs.declared.control.Control.{Control}
 use Rattle.control.specs.Lawful.{lawful}
@@ -42,11 +43,6 @@ lawful-execute c h e l = go (c .halted) (ltb (c .tick) 4)
     go true d = rw (le-leb _ _ h)
     go false true = rw (le-leb _ _ h)
     go false false = rw (le-leb _ _ h, eq-eqb _ _ e, lt-ltb _ _ l)
-
--- both are true
-pub both : (a b : Bool) → a && b ≡ true → (a ≡ true) × (b ≡ true)
-both true b e = (refl, e)
-both false b e = absurd (true-false (sym e))
 
 -- what a lawful control unit says of an execute tick
 facts : (a h f x y : Bool) → a && cond h true (cond f true (x && y)) ≡ true → h ≡ false → f ≡ false → x ≡ true

@@ -1,2 +1,3 @@
--- `Texts` has the laws of `specs/Disassembly.antt`.
+-- `Texts` has the laws of `specs/Disassembly.antt`, `Whole` that a text tells its word.
 pub mod Texts
+pub mod Whole

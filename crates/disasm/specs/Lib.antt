@@ -1,3 +1,4 @@
 pub mod Disassembly
+pub mod Forms
 pub mod Operands
 pub mod Examples

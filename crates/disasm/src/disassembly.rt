@@ -2,12 +2,16 @@
 // into the text's template: a template that stands alone is a constant to the compiler, where a
 // function with fourteen of them would store them all at each call.
 ghost use mathlib.Core.Path.{_≡_};
+ghost use Prim.Native.Nat.{_+_, _≤_};
+ghost use mathlib.Core.Bool.{true};
 ghost use mathlib.Core.List.{map};
 ghost use lib.ListN.{length};
+ghost use Rattle.isa.specs.Sizes.{textWidth};
 ghost use Rattle.isa.specs.Text.{ascii, padded, text};
 ghost use Rattle.encoding.specs.Bytes.{written};
 ghost use Rattle.isa.specs.Format.{fillByte};
-ghost use Rattle.disasm.specs.Disassembly.{disassembleText};
+ghost use Rattle.disasm.specs.Disassembly.{ending, disassembleText};
+ghost use Rattle.disasm.specs.Forms.{endedBytes};
 use encoding::put_bytes;
 use isa::Decoded;
 use isa::Instruction;
@@ -160,6 +164,23 @@ fn put_field(out: &mut [u8], at: usize, t: Text) -> u8
     t.len
 }
 
+// The same, with the word behind the text where that is loose: it has a digit that its instruction
+// does not use and that is not 0. Who copies the text then has the whole word. The first digit is
+// the opcode's, and told apart: taken from the word, it would be made ready for every text.
+fn put_ended(out: &mut [u8], at: usize, t: Text, digits: [u8; 4], first: u8, loose: bool) -> u8
+    requires { ⌜ t .len + length (ending true) ≤ textWidth ⌝ }
+    ensures { λ r. ⌜ (r ≡ t .len + length (ending loose)) × (now (out .exit) ≡ written (now (out .entry)) at (endedBytes t first digits loose)) ⌝ }
+{
+    if !loose {
+        return put_field(out, at, t);
+    }
+    let ending = [b' ', b';', b' ', first, digits[1], digits[2], digits[3]];
+    let mut bytes = t.bytes;
+    put_bytes(&mut bytes, t.len as usize, &ending);
+    let len = t.len + ending.len() as u8;
+    put_field(out, at, Text { bytes, len })
+}
+
 // Disassemble one machine word into its field of 32 bytes from index `at` on, where that fits; what
 // is answered is the length of the text. A word without an opcode becomes a ??? comment, so that a
 // listing can show every memory word without lying about what the machine would do. Each arm writes
@@ -171,20 +192,21 @@ pub fn disassemble_into(out: &mut [u8], at: usize, word: u16) -> u8
     let Decoded::Known(opcode) = Instruction::from_word(word).opcode() else {
         return put_field(out, at, unknown_text(digits));
     };
+    let loose = opcode.unused(word) != 0;
     match opcode {
         Opcode::LoadImmediate => put_field(out, at, load_immediate_text(digits)),
-        Opcode::LoadRegister => put_field(out, at, load_register_text(digits)),
+        Opcode::LoadRegister => put_ended(out, at, load_register_text(digits), digits, b'2', loose),
         Opcode::LoadMemory => put_field(out, at, load_memory_text(digits)),
         Opcode::StoreMemory => put_field(out, at, store_memory_text(digits)),
         Opcode::Add => put_field(out, at, add_text(digits)),
-        Opcode::Negate => put_field(out, at, negate_text(digits)),
+        Opcode::Negate => put_ended(out, at, negate_text(digits), digits, b'7', loose),
         Opcode::ShiftRight => put_field(out, at, shift_right_text(digits)),
         Opcode::ShiftLeft => put_field(out, at, shift_left_text(digits)),
         Opcode::And => put_field(out, at, and_text(digits)),
         Opcode::Or => put_field(out, at, or_text(digits)),
         Opcode::Xor => put_field(out, at, xor_text(digits)),
         Opcode::Jump => put_field(out, at, jump_text(digits)),
-        Opcode::Halt => put_field(out, at, halt_text()),
+        Opcode::Halt => put_ended(out, at, halt_text(), digits, b'E', loose),
     }
 }
 

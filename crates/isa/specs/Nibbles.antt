@@ -1,6 +1,8 @@
 -- Which digits of an instruction its opcode does not use (01, section 2; 02, Changes 1, 4 and 13).
 -- Assumes nothing.
 use Prim.Native.Nat.{ℕ, _+_, _*_, _%_}
+use mathlib.Core.Bool.{Bool, not}
+use lib.Dec.{eqb}
 use Rattle.isa.specs.declared.opcode.Opcode.{Opcode}
 use Rattle.isa.specs.declared.opcode.Opcode.the-variants.{LoadImmediate, LoadRegister, LoadMemory, StoreMemory, Add, Negate}
 use Rattle.isa.specs.declared.opcode.Opcode.the-variants.{ShiftRight, ShiftLeft, And, Or, Xor, Jump, Halt}
@@ -31,3 +33,7 @@ unused Unknown w = 0
 
 abbrev pub unusedNibbles : ℕ → ℕ
 unusedNibbles w = unused (decodeWord w) w
+
+-- one of them is not 0: then the word says more than its instruction
+abbrev pub loose : ℕ → Bool
+loose w = not (eqb (unusedNibbles w) 0)

@@ -9,8 +9,7 @@ use mathlib.Core.List.{List, [], _∷_, _++_, append-nil}
 use borrow.Author.Tests.{eqb-true, eqb-false, ne-eqb}
 use lib.Dec.{eqb, ltb, lit≤}
 use lib.ListN.{length, getD, take, set, replicate, length-append, length-replicate, length-set, getD-replicate}
-use lib.Seq.{length-take-le, getD-set-same, getD-set-other}
-use Rattle.isa.specs.declared.opcode.Opcode.the-variants.{LoadImmediate, LoadRegister, LoadMemory, StoreMemory, Add, Negate, ShiftRight, ShiftLeft, And, Or, Xor, Jump, Halt}
+use lib.Seq.{take-all, length-take-le, getD-set-same, getD-set-other}
 use Rattle.isa.specs.declared.opcode.Decoded.{Decoded}
 use Rattle.isa.specs.declared.opcode.Decoded.the-variants.{Known, Unknown}
 use Rattle.isa.specs.declared.text.Text.{Text}
@@ -18,14 +17,15 @@ use Rattle.isa.specs.Text.{ascii, spaced, text, textOf}
 use Rattle.isa.specs.Word.{byteYZ, decodeWord}
 use Rattle.isa.specs.Format.{fill}
 use Rattle.isa.proofs.Texts.{textOf-text, take-replicate}
-use Rattle.isa.proofs.Fills.{length-fill, filled-whole}
+use Rattle.isa.proofs.Fills.{length-fill}
 use Rattle.encoding.specs.Bytes.{over, written}
 use Rattle.encoding.proofs.Written.{over-over, writtens-eq}
-use Rattle.disasm.specs.Disassembly.{template}
+use Rattle.disasm.specs.Disassembly.{disassembleText}
+use Rattle.disasm.proofs.Texts.{known-short}
 use Rattle.listing.specs.declared.labels.Reference.{Reference}
 use Rattle.listing.specs.declared.labels.Reference.the-variants.{Loads, Stores, Jumps, None}
-use Rattle.listing.specs.Listing.{listingWords, referenceOf, refers, refersTo, referenced, labelled, otherTemplate, otherText}
-use Rattle.listing.specs.Listing.{referenceTemplate, listingTemplate, listingText, labelText, lineFront, lineBack, line, lineOf}
+use Rattle.listing.specs.Listing.{listingWords, referenceOf, refers, refersTo, referenced, labelled, otherBy, otherText}
+use Rattle.listing.specs.Listing.{referenceText, listingText, labelText, lineFront, lineBack, line, lineOf}
 
 -- ---- labels
 
@@ -78,55 +78,44 @@ module _ (t : List Bool) (xs : List ℕ) (w : ℕ) (h : Labels t xs) (l : length
 
 -- ---- the text of a word
 
--- a template is at most 26 bytes, so its column holds it
-other-short : (d : Decoded) → length (ascii (otherTemplate d)) ≤ 26
-unfolding otherTemplate template
-other-short (Known LoadImmediate) = lit≤ tt
-other-short (Known LoadRegister) = lit≤ tt
-other-short (Known LoadMemory) = lit≤ tt
-other-short (Known StoreMemory) = lit≤ tt
-other-short (Known Add) = lit≤ tt
-other-short (Known Negate) = lit≤ tt
-other-short (Known ShiftRight) = lit≤ tt
-other-short (Known ShiftLeft) = lit≤ tt
-other-short (Known And) = lit≤ tt
-other-short (Known Or) = lit≤ tt
-other-short (Known Xor) = lit≤ tt
-other-short (Known Jump) = lit≤ tt
-other-short (Known Halt) = lit≤ tt
-other-short Unknown = lit≤ tt
+-- a text has at most 26 bytes, so its column holds it
+other-short : (w : ℕ) → length (otherText w) ≤ 26
+unfolding otherText
+other-short w = go (decodeWord w) refl
+  where
+    go : (d : Decoded) → decodeWord w ≡ d → length (otherBy d w) ≤ 26
+    go Unknown e = rw length-fill (lit≤ tt)
+    go (Known o) e = let s : length (disassembleText w) ≤ 18 = known-short w o e in omega arith
 
-template-short : (b : Bool) (k : Reference) (d : Decoded) → length (ascii (referenceTemplate b k (otherTemplate d))) ≤ 26
-template-short true Loads d = lit≤ tt
-template-short false Loads d = lit≤ tt
-template-short true Stores d = lit≤ tt
-template-short false Stores d = lit≤ tt
-template-short true Jumps d = lit≤ tt
-template-short false Jumps d = lit≤ tt
-template-short true None d = other-short d
-template-short false None d = other-short d
+reference-short : (b : Bool) (k : Reference) (w : ℕ) → length (referenceText b k w) ≤ 26
+reference-short true Loads w = rw length-fill (lit≤ tt)
+reference-short false Loads w = rw length-fill (lit≤ tt)
+reference-short true Stores w = rw length-fill (lit≤ tt)
+reference-short false Stores w = rw length-fill (lit≤ tt)
+reference-short true Jumps w = rw length-fill (lit≤ tt)
+reference-short false Jumps w = rw length-fill (lit≤ tt)
+reference-short b None w = other-short w
 
 pub listing-short : (n w : ℕ) → length (listingText n w) ≤ 26
-unfolding listingText listingTemplate
-listing-short n w = rw length-fill (template-short (ltb (byteYZ w) n) (referenceOf (decodeWord w)) (decodeWord w))
+unfolding listingText
+listing-short n w = reference-short (ltb (byteYZ w) n) (referenceOf (decodeWord w)) w
 
 -- the text, once it is known how the word refers to an address, and whether to one inside
 pub listed : (n w : ℕ) (b : Bool) (k : Reference) {r : Text} → ltb (byteYZ w) n ≡ b → referenceOf (decodeWord w) ≡ k
-    → r ≡ text (take 32 (fill w (ascii (referenceTemplate b k (otherTemplate (decodeWord w)))))) → r ≡ text (listingText n w)
-unfolding listingText listingTemplate
+    → r ≡ text (take 32 (referenceText b k w)) → r ≡ text (listingText n w)
+unfolding listingText
 listed n w b k e f g =
-    let t = otherTemplate (decodeWord w) in
-    let s : length (ascii (referenceTemplate b k t)) ≤ 26 = template-short b k (decodeWord w) in
-    filled-whole w (ascii (referenceTemplate b k t)) (omega arith) g ∙ (λ i. text (fill w (ascii (referenceTemplate (sym e i) (sym f i) t))))
+    let s : length (referenceText b k w) ≤ 26 = reference-short b k w in
+    g ∙ ap text (take-all 32 (referenceText b k w) (omega arith)) ∙ (λ i. text (referenceText (sym e i) (sym f i) w))
 
-pub othered : (w : ℕ) (d : Decoded) {r : Text} → decodeWord w ≡ d → r ≡ text (fill w (ascii (otherTemplate d))) → r ≡ text (otherText w)
+pub othered : (w : ℕ) (d : Decoded) {r : Text} → decodeWord w ≡ d → r ≡ text (otherBy d w) → r ≡ text (otherText w)
 unfolding otherText
-othered w d e f = f ∙ rw e
+othered w d e f = f ∙ ap (λ (c : Decoded). text (otherBy c w)) (sym e)
 
 -- of a word that refers to no address
 pub other-listed : (n w : ℕ) → referenceOf (decodeWord w) ≡ None → otherText w ≡ listingText n w
-unfolding listingText otherText listingTemplate
-other-listed n w e = λ i. fill w (ascii (referenceTemplate (ltb (byteYZ w) n) (sym e i) (otherTemplate (decodeWord w))))
+unfolding listingText
+other-listed n w e = λ i. referenceText (ltb (byteYZ w) n) (sym e i) w
 
 -- a label has at most 4 bytes
 pub label-short : (on : Bool) (a : ℕ) → length (labelText on a) ≤ 4

@@ -1,7 +1,6 @@
--- The listing of a program image (01, section 7; disasm.rs, `disassemble_image`): a head, then a line of 45 bytes for each word.
+-- The listing of a program image (01, section 7; disasm.rs, `disassemble_image`; 02, Change 1): a head, then a line of 45 bytes for each word.
 -- Assumes nothing.
 use Prim.Native.Nat.{ℕ, _+_, _*_, _/_, _%_}
-use Prim.Native.String.{String}
 use mathlib.Core.Bool.{Bool, true, false, cond}
 use mathlib.Core.List.{List, [], _∷_, _++_}
 use lib.Dec.{eqb, ltb}
@@ -15,7 +14,7 @@ use Rattle.isa.specs.Word.{byteYZ, decodeWord}
 use Rattle.isa.specs.Format.{fill, decimal}
 use Rattle.encoding.specs.Bytes.{over, eachFrom, numbers}
 use Rattle.encoding.specs.Answer.{Outcome, outcome, Told, unlessRefused}
-use Rattle.disasm.specs.Disassembly.{template}
+use Rattle.disasm.specs.Disassembly.{disassembleText}
 use Rattle.listing.specs.declared.labels.Reference.{Reference}
 use Rattle.listing.specs.declared.labels.Reference.the-variants.{Loads, Stores, Jumps, None}
 use Rattle.listing.specs.declared.Listed.{Listed}
@@ -64,27 +63,24 @@ referenced (w ∷ ws) a = cond (refersTo w a) true (referenced ws a)
 unfoldable pub labelled : List ℕ → ℕ → Bool
 labelled ws a = cond (eqb a 0) true (referenced ws a)
 
--- the text of a word that refers to no address: a word without an opcode is data
-unfoldable pub otherTemplate : Decoded → String
-otherTemplate Unknown = ".word Wxyz"
-otherTemplate (Known o) = template (Known o)
+-- the text of a word that refers to no address: its disassembly as it is, and a word without an opcode is data
+abbrev pub otherBy : Decoded → ℕ → List ℕ
+otherBy Unknown w = fill w (ascii ".word Wxyz")
+otherBy (Known o) w = disassembleText w
 
 unfoldable pub otherText : ℕ → List ℕ
-otherText w = fill w (ascii (otherTemplate (decodeWord w)))
+otherText w = otherBy (decodeWord w) w
 
--- the text of a word: a reference inside the image is a label
-abbrev pub referenceTemplate : Bool → Reference → String → String
-referenceTemplate inside Loads other = cond inside "LOAD  Rx, [Lyz]" "LOAD  Rx, [yz]"
-referenceTemplate inside Stores other = cond inside "STORE Rx, [Lyz]" "STORE Rx, [yz]"
-referenceTemplate inside Jumps other = cond inside "JUMP  [Lyz] IF Rx=R0" "JUMP  [yz] IF Rx=R0"
-referenceTemplate inside None other = other
-
-unfoldable pub listingTemplate : Bool → Decoded → String
-listingTemplate inside d = referenceTemplate inside (referenceOf d) (otherTemplate d)
+-- the text of a word, by how it refers to an address: a reference inside the image is a label
+abbrev pub referenceText : Bool → Reference → ℕ → List ℕ
+referenceText inside Loads w = fill w (ascii (cond inside "LOAD  Rx, [Lyz]" "LOAD  Rx, [yz]"))
+referenceText inside Stores w = fill w (ascii (cond inside "STORE Rx, [Lyz]" "STORE Rx, [yz]"))
+referenceText inside Jumps w = fill w (ascii (cond inside "JUMP  [Lyz] IF Rx=R0" "JUMP  [yz] IF Rx=R0"))
+referenceText inside None w = otherText w
 
 -- the same in an image of n words
 unfoldable pub listingText : ℕ → ℕ → List ℕ
-listingText n w = fill w (ascii (listingTemplate (ltb (byteYZ w) n) (decodeWord w)))
+listingText n w = referenceText (ltb (byteYZ w) n) (referenceOf (decodeWord w)) w
 
 unfoldable pub labelText : Bool → ℕ → List ℕ
 labelText true a = fill a (ascii "Lyz:")

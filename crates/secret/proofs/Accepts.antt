@@ -9,7 +9,7 @@ use borrow.Author.Tests.{ltb-false, eqb-true, eqb-false, eq-eqb, not-false}
 use lib.Dec.{eqb, ltb}
 use lib.ListN.{length, getD, take, replicate, length-append, length-take, length-replicate}
 use lib.Seq.{getD-take}
-use Rattle.control.proofs.Lawfuls.{both}
+use Rattle.isa.proofs.Truths.{both}
 use Rattle.vm.specs.Calls.{imageWords}
 use Rattle.marks.specs.Marks.{marked}
 use Rattle.guard.specs.Input.{Input, zeroOne, inputRefusal}

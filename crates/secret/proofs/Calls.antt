@@ -10,7 +10,7 @@ use lib.ListN.{length, getD}
 use Rattle.encoding.proofs.Written.{take-over}
 use Rattle.isa.specs.Text.{padded, textOf}
 use Rattle.control.specs.Lawful.{lawful}
-use Rattle.control.proofs.Lawfuls.{both}
+use Rattle.isa.proofs.Truths.{both}
 use Rattle.vm.specs.declared.machine.Machine.{Machine as Code}
 use Rattle.trace.specs.Trace.{liveLengths, shortTexts}
 use Rattle.vm.specs.Refusal.{partsOk}

@@ -2,11 +2,12 @@
 -- Assumes nothing.
 use Prim.Native.Nat.{ℕ, suc, _+_, _/_, _%_, _≤_, _<_}
 use native.Mathlib.Omega.{arith}
+use mathlib.Core.Logic.{_↔_}
 use mathlib.Core.Path.{_≡_, refl, sym, ap, ap₂, _∙_}
 use mathlib.Core.Bool.{Bool, true, false, cond}
 use mathlib.Core.List.{List, [], _∷_, _++_}
 use lib.ListN.{length, take, drop, set, replicate, length-append}
-use lib.Seq.{set-split}
+use lib.Seq.{set-split, drop-at}
 use Rattle.encoding.specs.Bytes.{over, bigEndian, written}
 use Rattle.encoding.proofs.Written.{written-fits, writtens-eq}
 use Rattle.encoding.proofs.Numbers.{length-bigEndian}
@@ -14,6 +15,7 @@ use Rattle.isa.specs.Text.{padded}
 use Rattle.isa.proofs.Texts.{length-padded}
 use Rattle.disasm.specs.Disassembly.{disassembleText}
 use Rattle.disasm.proofs.Texts.{disassembly-padded}
+use Rattle.disasm.proofs.Whole.{field-tells}
 use Rattle.control.specs.declared.counters.Counters.{Counters}
 use Rattle.marks.specs.Marks.{marked, shown}
 use Rattle.isa.specs.Sizes.{textWidth}
@@ -96,6 +98,16 @@ module _ (hid : ℕ → Bool) where
       let t : m ∷ bigEndian valueWidth (shown hid m v) ≡ n ∷ bigEndian valueWidth (shown hid n w) = append-cut x x refl (tail-same q) .1 in
       let r : bigEndian valueWidth (shown hid m v) ≡ bigEndian valueWidth (shown hid n w) = cc in
       (cc, number-same valueWidth (shown hid m v) (shown hid n w) (shown-below m v hv) (shown-below n w hw) r)
+
+  -- the last 32 bytes of such a record are the word's text
+  pub start-text : (a m w : ℕ) → drop (valueLength addressWidth) (startRecord hid a m w) ≡ shownText hid m w
+  unfolding startRecord
+  start-text a m w = drop-at (valueRecord hid 2 (addressBytes a) m w) (shownText hid m w) (valueLength addressWidth) (length-value 2 (addressBytes a) m w (length-bigEndian addressWidth a))
+
+  -- two open starting words have equal texts exactly when they are equal (02, Change 1)
+  pub open-texts : (m v n w : ℕ) → hid m ≡ false → hid n ≡ false → v < 65536 → w < 65536 → (shownText hid m v ≡ shownText hid n w) ↔ (v ≡ w)
+  unfolding shownText
+  open-texts m v n w p q h k = rw (p, q) (field-tells v w h k)
 
   -- ---- what they do not tell apart
 

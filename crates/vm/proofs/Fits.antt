@@ -28,7 +28,8 @@ use Rattle.vm.specs.Refusal.{partsOk, stepRefusalIf, stepRefusal}
 use Rattle.vm.specs.Forms.{Sizes, Fit, sound}
 use Rattle.vm.specs.StepCalls.{answered, hasFault, opAfter, microOp, effectIf, instructionReportOn, haltedTexts, haltedReport, instructionReport}
 use Rattle.vm.specs.RunCalls.{runCall}
-use Rattle.control.proofs.Lawfuls.{true-false, both}
+use Rattle.isa.proofs.Truths.{both}
+use Rattle.control.proofs.Lawfuls.{true-false}
 use Rattle.vm.proofs.Newest.{texts-of, trace-length, one-step, made, few}
 
 pub fit : (q : Parts) (n : ℕ) → sound n q ≡ true → Sizes q → Fit q

@@ -10,7 +10,7 @@ use lib.Dec.{eqb, ltb}
 use lib.ListN.{length, getD, replicate, length-replicate}
 use lib.Seq.{take-all}
 use Rattle.isa.specs.Sizes.{memoryWords}
-use Rattle.control.proofs.Lawfuls.{both}
+use Rattle.isa.proofs.Truths.{both}
 use Rattle.trace.specs.Trace.{columnsLength}
 use Rattle.vm.specs.declared.machine.Machine.{Machine as Code}
 use Rattle.vm.specs.Forms.{Fit, Sizes}

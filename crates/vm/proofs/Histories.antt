@@ -11,7 +11,7 @@ use lib.ListN.{length, drop}
 use Rattle.isa.specs.Sizes.{memoryWords}
 use Rattle.encoding.specs.Bytes.{number}
 use Rattle.control.specs.Lawful.{lawful}
-use Rattle.control.proofs.Lawfuls.{both}
+use Rattle.isa.proofs.Truths.{both}
 use Rattle.control.specs.declared.control.State.{State}
 use Rattle.control.specs.declared.counters.Counters.{Counters}
 use Rattle.history.specs.declared.differing.Differences.{Differences}

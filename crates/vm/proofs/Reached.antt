@@ -13,7 +13,7 @@ use Rattle.control.specs.Lawful.{lawful}
 use Rattle.vm.specs.declared.machine.Machine.{Machine as Code}
 use Rattle.vm.specs.Refusal.{partsOk, refusal}
 use Rattle.vm.specs.Calls.{isMachine, refusalOf, restarted, imageWords, serve, loaded, reset, clear, clearHistory}
-use Rattle.control.proofs.Lawfuls.{both}
+use Rattle.isa.proofs.Truths.{both}
 use Rattle.vm.specs.History.{saved, undone}
 use Rattle.vm.proofs.Starts.{size-few, new-ok}
 use Rattle.vm.proofs.Histories.{saved-lasts, undone-lasts}

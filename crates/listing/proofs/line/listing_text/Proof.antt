@@ -5,13 +5,12 @@ use lib.Dec.{ltb}
 use lib.ListN.{take}
 use Rattle.isa.specs.declared.opcode.Decoded.{Decoded}
 use Rattle.isa.specs.declared.text.Text.{Text}
-use Rattle.isa.specs.Text.{ascii, text}
-use Rattle.isa.specs.Format.{fill}
+use Rattle.isa.specs.Text.{text}
 use Rattle.isa.specs.Word.{byteYZ, decodeWord}
 use Rattle.isa.proofs.Words.{read-off, decodes}
 use Rattle.listing.specs.declared.labels.Reference.{Reference}
 use Rattle.listing.specs.declared.labels.Reference.the-variants.{Loads, Stores, Jumps}
-use Rattle.listing.specs.Listing.{referenceOf, otherTemplate, referenceTemplate, listingText}
+use Rattle.listing.specs.Listing.{referenceOf, referenceText, listingText}
 use Rattle.listing.proofs.Lines.{listed, other-listed}
 use borrow.Author.Needs.{needs}
 use Rattle.listing.proofs.line.listing_text.Statement.{statement}
@@ -29,7 +28,7 @@ module _ (o : tie.After-reference-of) where
 
   -- an arm of a reference: whether it is inside, and which it is
   arm : (b : Bool) (k : Reference) {r : Text} → ltb (o .before .before .yz .result) (start .before .args .count) ≡ b → o .reference-of .result ≡ k
-      → r ≡ text (take 32 (fill (start .before .args .word) (ascii (referenceTemplate b k (otherTemplate (decodeWord (start .before .args .word)))))))
+      → r ≡ text (take 32 (referenceText b k (start .before .args .word)))
       → r ≡ text (listingText (start .before .args .count) (start .before .args .word))
   arm b k e f g =
       let w = start .before .args .word in

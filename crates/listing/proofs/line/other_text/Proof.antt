@@ -1,12 +1,9 @@
 -- Assumes nothing.
-use mathlib.Core.Path.{_∙_}
 use lib.Dec.{lit≤}
 use Rattle.isa.specs.Text.{ascii}
 use Rattle.isa.specs.declared.opcode.Decoded.the-variants.{Unknown}
 use Rattle.isa.proofs.Fills.{filled-whole}
 use Rattle.isa.proofs.Words.{decodes}
-use Rattle.disasm.specs.Disassembly.{disassembleText}
-use Rattle.listing.specs.Listing.{otherTemplate}
 use Rattle.listing.proofs.Lines.{othered}
 use Rattle.listing.proofs.line.other_text.Statement.{statement}
 use Rattle.listing.proofs.line.other_text.Tie as tie
@@ -31,7 +28,6 @@ format-requires : tie.Need-format-requires
 format-requires c κs = search needs
 
 returns : tie.Need-returns
-unfolding otherTemplate
 returns c =
     let o = c .before .before .before .before in
     let w = o .before .before .args .word in
@@ -41,12 +37,11 @@ disassemble-requires : tie.Need-disassemble-requires
 disassemble-requires c κs = search needs
 
 returns-2 : tie.Need-returns-2
-unfolding otherTemplate disassembleText
 returns-2 c =
     let o = c .before .before .before in
     let w = o .before .before .args .word in
     let d = decodes w (o .before .from-word .ensures) (o .opcode .ensures) (c .before .enum-told .given .1) in
-    othered w _ d (c .disassemble .ensures ∙ rw d)
+    othered w _ d (c .disassemble .ensures)
 
 pub other-text-spec : {M : Type 1} → statement M
 other-text-spec =
