@@ -21,6 +21,26 @@ pub fn dense(random: &mut Random, words: usize) -> Vec<u16> {
         .collect()
 }
 
+/// Words of the opcodes that do not use all digits, with such a digit that is
+/// not 0 and without: the texts of the first end in the word.
+pub const PARTLY_USED: [u16; 12] = [
+    0x2F12, 0x2012, 0x2100, 0xEABC, 0xE000, 0xE001, 0xE010, 0xE100, 0x7011, 0x7010, 0x7001, 0x7100,
+];
+
+/// Mostly words of these opcodes, each digit now and then 0. The others refer to
+/// them, so that they stand in lines with a label and without.
+pub fn partly_used(random: &mut Random, words: usize) -> Vec<u16> {
+    (0..words)
+        .map(|_| match random.below(4) {
+            0 => referring(random, words),
+            _ => {
+                let digits = random.pick(&[0xFFF, 0xFF0, 0xF0F, 0x0FF, 0x0F0, 0x000]);
+                random.pick(&[0x2, 0x7, 0xE]) << 12 | random.word() & digits
+            }
+        })
+        .collect()
+}
+
 fn referring(random: &mut Random, words: usize) -> u16 {
     let opcode = random.pick(&[0x3, 0x4, 0xD]);
     let register = random.below(16) as u16;

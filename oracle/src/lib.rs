@@ -1,6 +1,7 @@
 //! The original MASSEY core, built unchanged, and the lists of questions with
-//! its answers that the port is held to: a folder for each of the port's sides,
-//! and here what they share.
+//! the answers that the port is held to: its own, and a model's where the port is
+//! due to go past it. A folder for each of the port's sides, and here what they
+//! share.
 
 // The original says `use crate::isa`, so its files must be modules right here.
 include!(concat!(env!("OUT_DIR"), "/original.rs"));

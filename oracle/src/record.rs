@@ -1,4 +1,4 @@
-//! One question and the original's answer to it, in the form that the replay
+//! One question and the answer that is due, in the form that the replay
 //! programs read: length 2 (of what follows), kind 1, question, answer. Numbers
 //! are high byte first.
 

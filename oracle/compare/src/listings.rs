@@ -3,9 +3,10 @@
 
 use crate::calls::{self, Outcome};
 use crate::tally::Tally;
+use oracle::images;
 use oracle::random::Random;
 use oracle::sizes::{LISTING_TOO_LONG, LISTING_WORDS};
-use oracle::{disasm, images};
+use oracle::words::disassembly;
 
 pub fn compare(tally: &mut Tally) {
     let mut random = Random::new(0x11_57);
@@ -14,6 +15,8 @@ pub fn compare(tally: &mut Tally) {
             around(tally, &images::bytes(&images::mixed(&mut random, words)));
         }
         around(tally, &images::bytes(&images::dense(&mut random, words)));
+        let partly_used = images::partly_used(&mut random, words);
+        around(tally, &images::bytes(&partly_used));
     }
     for _ in 0..2_000 {
         let words = random.below(LISTING_WORDS + 1);
@@ -48,7 +51,7 @@ fn around(tally: &mut Tally, image: &[u8]) {
 /// are looked at: a longer image is refused before its listing matters.
 fn listing(image: &[u8]) -> Vec<u8> {
     let words = images::whole_words(&image[..image.len().min(LISTING_TOO_LONG - 1)]);
-    disasm::disassemble_image(&words).into_bytes()
+    disassembly::disassemble_image(&words).into_bytes()
 }
 
 fn expected(image: &[u8], out_len: usize) -> Outcome {

@@ -3,9 +3,10 @@
 use crate::difference;
 use crate::program::Run;
 use crate::tally::Tally;
+use oracle::images;
 use oracle::random::Random;
 use oracle::sizes::{LISTING_TOO_LONG, LISTING_WORDS};
-use oracle::{disasm, images};
+use oracle::words::disassembly;
 
 const PIECES: [usize; 5] = [1, 2, 3, 7, 100];
 const WORDS: [usize; 6] = [0, 1, 2, 16, LISTING_WORDS - 1, LISTING_WORDS];
@@ -29,8 +30,11 @@ pub fn compare(tally: &mut Tally) {
     let mut random = Random::new(0x0009_19E5);
     for piece in PIECES {
         for words in WORDS {
-            let image = images::bytes(&images::dense(&mut random, words));
-            run(tally, &image, piece);
+            let dense = images::dense(&mut random, words);
+            let partly_used = images::partly_used(&mut random, words);
+            for image in [dense, partly_used] {
+                run(tally, &images::bytes(&image), piece);
+            }
         }
         for length in ODD_OR_LONG {
             run(tally, &any_bytes(&mut random, length), piece);
@@ -73,6 +77,6 @@ fn expected(bytes: &[u8]) -> Vec<u8> {
     } else if bytes.len() % 2 == 1 {
         b"refused 6\n".to_vec()
     } else {
-        disasm::disassemble_image(&images::whole_words(bytes)).into_bytes()
+        disassembly::disassemble_image(&images::whole_words(bytes)).into_bytes()
     }
 }

@@ -6,6 +6,7 @@ use crate::codes;
 use crate::encoding::{put_number, put_text, put_word, put_words};
 use crate::sizes::{MEMORY_WORDS, TEXT};
 use crate::vm_limited::{InstructionReport, Machine, MicroOp, RunStop, TraceRecord};
+use crate::words::disassembly::disassemble;
 
 /// What a tick tells.
 pub fn op(op: MicroOp) -> Vec<u8> {
@@ -15,11 +16,11 @@ pub fn op(op: MicroOp) -> Vec<u8> {
     out
 }
 
-/// What an instruction tells.
+/// What an instruction tells, with the text that is due for its word.
 pub fn report(report: &InstructionReport) -> Vec<u8> {
     let mut out = vec![report.address];
     put_word(&mut out, report.word);
-    put_text(&mut out, &report.text);
+    put_text(&mut out, &disassemble(report.word));
     out.push(report.micro_ops.len() as u8);
     for text in &report.micro_ops {
         put_text(&mut out, text);

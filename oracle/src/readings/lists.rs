@@ -1,5 +1,6 @@
 //! The two lists of `replay_readings`, as those of `replay_words` in `words`.
 
+use crate::images::PARTLY_USED;
 use crate::programs::{self, HALT, JUMP};
 use crate::random::Random;
 use crate::readings::{self, Question};
@@ -45,6 +46,7 @@ pub fn fixed() -> Vec<Record> {
     questions.extend(every_tick());
     questions.extend(halted());
     questions.extend(ends_of_memory(&mut random));
+    questions.extend(partly_used());
     let mut records: Vec<Record> = questions.iter().map(readings::record).collect();
     records.extend(sample::records());
     records
@@ -112,6 +114,17 @@ fn ends_of_memory(random: &mut Random) -> Vec<Question> {
     image[0] = JUMP | 0xFF;
     image[CODE_WORDS - 1] = 0x4000;
     (4..=12).map(|ticks| question(&image, ticks, 255)).collect()
+}
+
+/// Each word whose text may end in it; and an address where a store puts such a
+/// word, just before it is there, just behind, and when it was carried out.
+fn partly_used() -> Vec<Question> {
+    let mut questions: Vec<Question> = (0..PARTLY_USED.len() as u8)
+        .map(|address| question(&PARTLY_USED, 0, address))
+        .collect();
+    let storing = [0x3103, 0x4102, HALT, 0xEABC];
+    questions.extend([13, 14, 18].map(|ticks| question(&storing, ticks, 2)));
+    questions
 }
 
 /// Images far over what a machine holds.

@@ -5,6 +5,7 @@ pub mod lists;
 use crate::encoding::{put_count, put_number, put_text, put_word, put_words};
 use crate::record::Record;
 use crate::vm::Machine;
+use crate::words::disassembly::disassemble;
 
 /// What a machine is asked: an image, how many ticks are made on it, and an
 /// address.
@@ -45,7 +46,9 @@ fn answer(machine: &Machine, address: u8) -> Vec<u8> {
     put_words(&mut out, machine.image());
     out.push(machine.is_running() as u8);
     put_word(&mut out, machine.current_instruction().word());
-    put_text(&mut out, &machine.disassemble_at(address));
+    // `disassemble_at`, whose text is no longer the original's for every word.
+    let word = machine.memory[usize::from(address)];
+    put_text(&mut out, &disassemble(word));
     put_position(&mut out, machine.transfer_position());
     put_number(&mut out, machine.history_len() as u64);
     out

@@ -2,11 +2,11 @@
 //! for each kind of record.
 
 use crate::codes::put_fault;
-use crate::disasm::disassemble;
 use crate::encoding::{put_count, put_number, put_text, put_word};
 use crate::report::guarded::{self, Input, Run};
 use crate::sizes::{BREAKPOINTS, MEMORY_WORDS, REGISTERS, TEXT, TRACE_RECORDS};
 use crate::vm::{Phase, TraceRecord};
+use crate::words::disassembly::disassemble;
 
 /// The bytes of an address of memory, in kinds 02, 06 and 07 and of MAR.
 const ADDRESS: usize = 1;

@@ -1,7 +1,7 @@
 //! The two lists of `replay_words` on words, texts and listings: the fixed one,
 //! small enough to be kept, and the full one, which is made when it is needed.
 
-use crate::images;
+use crate::images::{self, PARTLY_USED};
 use crate::random::Random;
 use crate::record::Record;
 use crate::sizes::LISTING_WORDS;
@@ -81,6 +81,8 @@ pub fn fixed() -> Vec<Record> {
     records.extend(names().iter().map(|name| texts::parse(name)));
     records.extend(LENGTHS.map(|words| texts::listing(&images::mixed(&mut random, words))));
     records.extend(DENSE_LENGTHS.map(|words| texts::listing(&images::dense(&mut random, words))));
+    records.extend(PARTLY_USED.map(texts::word));
+    records.extend(partly_used().map(|image| texts::listing(&image)));
     records
 }
 
@@ -127,6 +129,30 @@ pub(crate) fn edge_words(random: &mut Random) -> Vec<u16> {
         words.extend((0..12).map(|_| opcode << 12 | random.word() >> 4));
     }
     words
+}
+
+/// An image of one word and two of the most. Each word whose text may end in it
+/// stands in lines without a label, and from the middle on in one with a label.
+/// The last line ends in the word, without a label and with one.
+fn partly_used() -> [Vec<u16>; 3] {
+    let labelled: Vec<usize> = (MOST / 2..).take(PARTLY_USED.len()).collect();
+    let last = [&labelled[..], &[MOST - 1]].concat();
+    [
+        vec![PARTLY_USED[0]],
+        referring_to(&labelled),
+        referring_to(&last),
+    ]
+}
+
+/// These words again and again, up to the most. Some in the first half refer to
+/// the addresses, by each opcode that does.
+fn referring_to(addresses: &[usize]) -> Vec<u16> {
+    let mut image: Vec<u16> = PARTLY_USED.into_iter().cycle().take(MOST).collect();
+    for (word, address) in image[MOST / 4..].iter_mut().zip(addresses) {
+        let opcode = [0x3000, 0x4000, 0xD000][address % 3];
+        *word = opcode | *address as u16;
+    }
+    image
 }
 
 fn edge_encodings(random: &mut Random) -> Vec<[u8; 4]> {

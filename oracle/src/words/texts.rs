@@ -5,18 +5,19 @@ use crate::encoding::{put_count, put_padded, put_words};
 use crate::isa::{self, Instruction, InstructionGroup, Opcode};
 use crate::record::Record;
 use crate::sizes::TEXT;
+use crate::words::disassembly;
 
 /// The room for an opcode's description.
 const LONG_TEXT: usize = 80;
 
-/// 'W': all that the original says of one word.
+/// 'W': all that the original says of one word, with the text that is due.
 pub fn word(word: u16) -> Record {
     let mut answer = Vec::new();
     put_fields(&mut answer, Instruction::from_word(word));
     put_counted(&mut answer, &Instruction::from_word(word).to_string());
     put_counted(&mut answer, &isa::format_word(word));
     put_counted(&mut answer, &isa::binary_grouped(word));
-    put_counted(&mut answer, &disasm::disassemble(word));
+    put_counted(&mut answer, &disassembly::disassemble(word));
     let raised = i32::from(isa::to_signed(word)) + 32_768;
     answer.extend((raised as u16).to_be_bytes());
     put_optional(&mut answer, disasm::written_register(word));
@@ -91,7 +92,7 @@ pub fn parse(text: &[u8]) -> Record {
 
 /// 'L': the listing of an image.
 pub fn listing(words: &[u16]) -> Record {
-    let listing = disasm::disassemble_image(words);
+    let listing = disassembly::disassemble_image(words);
     let mut question = Vec::new();
     put_count(&mut question, words.len());
     put_words(&mut question, words);

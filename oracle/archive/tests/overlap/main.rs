@@ -8,11 +8,12 @@ mod places;
 
 use driver::{ask, Answer, Call, Question};
 use inputs::Refused;
+use oracle::images;
 use oracle::lent;
 use oracle::report::bytes::LONGEST;
 use oracle::report::program;
 use oracle::sizes::TEXT;
-use oracle::{disasm, images};
+use oracle::words::disassembly;
 
 /// How many differences of one input are shown.
 const SHOWN: usize = 12;
@@ -178,7 +179,7 @@ fn listings() {
     let cases: Vec<Case> = inputs::images()
         .iter()
         .flat_map(|words| {
-            let listing = disasm::disassemble_image(words).into_bytes();
+            let listing = disassembly::disassemble_image(words).into_bytes();
             [0, 600].map(|more| {
                 let name = format!("{} words", words.len());
                 let image = images::bytes(words);
@@ -202,7 +203,7 @@ fn texts() {
     let cases: Vec<Case> = (0..=u16::MAX)
         .step_by(257)
         .map(|word| {
-            let text = disasm::disassemble(word);
+            let text = disassembly::disassemble(word);
             let case = separate(&text, Call::Disassemble, &word.to_be_bytes(), 40);
             assert_eq!(case.written[..text.len()], *text.as_bytes());
             case

@@ -6,12 +6,12 @@
 use crate::run::{command, output, path, same, shell};
 use oracle::calls::commands::{script, Command as Call};
 use oracle::calls::{program, scripts};
+use oracle::images;
 use oracle::report::inputs::examples::longest_report;
 use oracle::report::inputs::sample::invented;
 use oracle::report::program::{answer, bytes, refused, DECIDING};
 use oracle::sizes::{LISTING_TOO_LONG, LISTING_WORDS};
-use oracle::words::sample;
-use oracle::{disasm, images};
+use oracle::words::{disassembly, sample};
 use std::fs::File;
 use std::io::Write;
 use std::os::fd::OwnedFd;
@@ -89,7 +89,7 @@ fn as_many_bytes_come_as_decide_a_report() {
 fn a_whole_image_comes() {
     let longest = images::bytes(&[0xE000; LISTING_WORDS]);
     for image in [sample::image(), longest] {
-        let listing = disasm::disassemble_image(&images::whole_words(&image));
+        let listing = disassembly::disassemble_image(&images::whole_words(&image));
         assert!(!listing.is_empty(), "it is one by itself");
         let written = failing_after("massey_listing", &image);
         let what = format!("massey_listing, {} bytes", image.len());

@@ -2,6 +2,7 @@
 //! inputs and with such as are refused.
 
 use crate::run::{command, input, output, path, same, shell};
+use oracle::images;
 use oracle::random::Random;
 use oracle::report::bytes::LONGEST;
 use oracle::report::guarded::Input;
@@ -9,7 +10,7 @@ use oracle::report::inputs::examples::{longest_hidden_report, longest_report, ma
 use oracle::report::inputs::refused;
 use oracle::report::program::{answer, bytes};
 use oracle::sizes::{BREAKPOINTS, LARGEST_BUDGET, LISTING_TOO_LONG, LISTING_WORDS, MEMORY_WORDS};
-use oracle::{disasm, images};
+use oracle::words::disassembly;
 
 const IN_160_KB: &str = "ulimit -s 160 && exec \"$0\"";
 
@@ -88,7 +89,7 @@ fn the_longest_listings() {
     let mut random = Random::new(0x57_AC4);
     let dense = images::dense(&mut random, LISTING_WORDS);
     for words in [dense, images::mixed(&mut random, LISTING_WORDS), Vec::new()] {
-        let due = disasm::disassemble_image(&words).into_bytes();
+        let due = disassembly::disassemble_image(&words).into_bytes();
         let what = format!("{} words", words.len());
         runs("massey_listing", &images::bytes(&words), &due, &what);
     }

@@ -5,10 +5,11 @@
 use crate::run::{command, end, input, path, read};
 use oracle::calls::commands::{script, Command as Call};
 use oracle::calls::program;
+use oracle::images;
 use oracle::report::inputs::examples::longest_report;
 use oracle::report::program::{answer, bytes};
 use oracle::sizes::{LISTING_WORDS, MEMORY_WORDS};
-use oracle::{disasm, images};
+use oracle::words::disassembly;
 use std::ffi::c_int;
 use std::io::{self, PipeReader, PipeWriter, Read};
 use std::os::fd::AsRawFd;
@@ -84,7 +85,7 @@ fn the_beginning_of_a_report_and_of_a_listing() {
     let written = unread("massey_report", &report);
     is_beginning(&written, &answer(&report), "massey_report");
     let words = [0xE000; LISTING_WORDS];
-    let listing = disasm::disassemble_image(&words).into_bytes();
+    let listing = disassembly::disassemble_image(&words).into_bytes();
     let written = unread("massey_listing", &images::bytes(&words));
     is_beginning(&written, &listing, "massey_listing");
 }

@@ -24,12 +24,13 @@ const COUNTS: [u64; 13] = [
     u64::MAX,
 ];
 
-/// Instructions of seven and of five ticks, HALT and an unknown word.
+/// Instructions of seven and of five ticks, HALT, with digits that it does not use
+/// and without, and an unknown word.
 const STARTS: [[u16; 3]; 5] = [
     [0x4120, 0x4121, HALT],
     [0x3120, 0x3121, HALT],
     [0x6000, 0x6000, JUMP],
-    [HALT, HALT, HALT],
+    [0xEABC, HALT, HALT],
     [0x5000, 0x5000, 0x5000],
 ];
 

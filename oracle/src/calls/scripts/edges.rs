@@ -15,8 +15,9 @@ const TICKS: [u8; 9] = [0, 1, 2, 3, 4, 5, 6, 7, 255];
 const EXECUTE_TICKS: [u8; 6] = [0, 1, 2, 3, 4, 255];
 const OPCODES: usize = 16;
 
-/// A store, a load, a sum, a jump that is not taken and HALT.
-const PROGRAM: [u16; 7] = [0x1107, 0x4120, 0x3220, 0x6312, 0x7030, 0xD120, HALT];
+/// NEGATE with digits that it does not use, a store, a load, a sum, a jump that is
+/// not taken and HALT.
+const PROGRAM: [u16; 7] = [0x1107, 0x7F1A, 0x4120, 0x3220, 0x6312, 0xD120, HALT];
 
 /// Every call, `run` in a few ways, and the direct engine's beside their own.
 fn calls() -> Vec<Command> {
@@ -29,7 +30,8 @@ fn calls() -> Vec<Command> {
         Command::Step,
         run(0),
         run(2),
-        Command::Run(9, vec![2]),
+        // Where PC is behind `begun`, and where it comes by in other programs.
+        Command::Run(9, vec![3, 2]),
         Command::Push,
         Command::Undo,
         Command::ClearHistory,
@@ -52,6 +54,7 @@ pub fn each_call(draft: &mut Draft, state: &[Command]) {
 pub fn begun() -> Vec<Command> {
     vec![
         Command::Load(PROGRAM.to_vec()),
+        Command::Step,
         Command::Step,
         Command::Step,
         Command::Push,

@@ -7,6 +7,7 @@ use crate::calls::scripts::draft::Draft;
 use crate::calls::scripts::edges::STORE;
 use crate::calls::snapshots;
 use crate::calls::touched::PLACES;
+use crate::images::{saying_invented, PARTLY_USED};
 use crate::programs::HALT;
 use crate::sizes::{MEMORY_WORDS, TEXT, TRACE_RECORDS};
 
@@ -36,6 +37,7 @@ pub fn script() -> Vec<u8> {
     direct_instructions(&mut draft);
     direct_runs(&mut draft);
     direct_refusals(&mut draft);
+    partly_used(&mut draft);
     let mut script = draft.bytes();
     // Three bytes of a run's operands.
     script.extend([0x06, 0x00, 0x00, 0x00]);
@@ -301,5 +303,21 @@ fn direct_refusals(draft: &mut Draft) {
         draft.add_all([Command::Direct, run(2), run(0), Command::Direct]);
         draft.add_all([Command::Reset, set(counter, FULL), Command::Direct]);
         draft.add_all([set(counter, FULL - 6), run(99), Command::Dump]);
+    }
+}
+
+/// The texts that may end in the word, by both engines: of the instruction that
+/// is made, of the one behind it where another is under way, and of the one
+/// behind HALT. Each image says in ASCII that it is invented.
+fn partly_used(draft: &mut Draft) {
+    let load = |words: &[u16]| Command::Load([words, &saying_invented()].concat());
+    for step in [Command::Step, Command::Direct] {
+        for word in PARTLY_USED {
+            draft.add_all([load(&[word]), step.clone()]);
+        }
+        draft.add(load(&[0x4120, 0x2F12]));
+        draft.add_all(vec![Command::Micro; 4]);
+        draft.add_all([step.clone(), step.clone()]);
+        draft.add_all([load(&[0xEABC, 0x7011]), step.clone(), step, Command::Dump]);
     }
 }

@@ -113,8 +113,8 @@ pub const FAMILIES: [Family; 20] = [
     // A few of their values; the model is asked for all of them.
     Family {
         name: "more_values",
-        count: || 4 * (pairs::VALUE_PROGRAMS - 1),
-        inputs: |number| all_bytes(&pairs::values(1 + number / 4, number % 4 * 85)),
+        count: || pairs::MORE_VALUES,
+        inputs: |number| all_bytes(&pairs::more_values(number)),
         relation: Relation::Same,
     },
     free(

@@ -3,7 +3,7 @@
 
 use crate::programs::{HALT, IDLE};
 use crate::report::guarded::Input;
-use crate::report::inputs::examples::{input, marks_at};
+use crate::report::inputs::examples::input;
 use crate::sizes::CODE_WORDS;
 
 /// All that begin on open words and do not end the run at once.
@@ -69,7 +69,8 @@ pub fn behind_a_load() -> Vec<Input> {
     let mut inputs = Vec::new();
     for marked in [vec![], vec![0x21], vec![0x21, 0x01]] {
         for next in [
-            0x4130, 0x3130, 0xD105, 0xD005, 0x1105, 0x2032, 0x7010, HALT, 0x5000,
+            0x4130, 0x3130, 0xD105, 0xD005, 0x1105, 0x2032, 0x7010, HALT, 0x5000, 0x2F32, 0x7A1B,
+            0xEABC,
         ] {
             for budget in 0..4 {
                 let plain = input(&image(next), &marked, budget);
@@ -84,13 +85,15 @@ pub fn behind_a_load() -> Vec<Input> {
     inputs
 }
 
-/// Marks on each single address, by a program that stops at each.
+/// Marks on each single address, by a program that stops at each: before HALT,
+/// whose text would end in the word, were it open.
 pub fn each_mark() -> Vec<Input> {
-    let idle = vec![IDLE; CODE_WORDS];
+    let with_halt = |address: u8| {
+        let mut image = vec![IDLE; CODE_WORDS];
+        image[usize::from(address)] = 0xEABC;
+        image
+    };
     (0..=255)
-        .map(|address| Input {
-            marks: marks_at(&[address]),
-            ..input(&idle, &[], 300)
-        })
+        .map(|address| input(&with_halt(address), &[address], 300))
         .collect()
 }

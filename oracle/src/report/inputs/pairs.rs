@@ -118,6 +118,17 @@ pub fn values(program: usize, high: usize) -> Vec<Input> {
         .collect()
 }
 
+/// Some high bytes: of unknown words and of AND, and of words whose texts would end
+/// in them, were they open.
+const HIGHS: [usize; 7] = [0x00, 0x2F, 0x55, 0x7A, 0xAA, 0xEA, 0xFF];
+
+pub const MORE_VALUES: usize = HIGHS.len() * (VALUE_PROGRAMS - 1);
+
+/// All values with one of these high bytes, in one of the programs but the first.
+pub fn more_values(number: usize) -> Vec<Input> {
+    values(1 + number / HIGHS.len(), HIGHS[number % HIGHS.len()])
+}
+
 // -- open things ------------------------------------------------------------
 
 /// Two inputs that differ in one open thing.

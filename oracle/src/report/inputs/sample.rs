@@ -2,7 +2,7 @@
 //! answers, small enough to be kept. Its programs are invented, and the first
 //! says so in ASCII.
 
-use crate::images;
+use crate::images::{self, PARTLY_USED};
 use crate::programs::HALT;
 use crate::record::Record;
 use crate::report::guarded::Input;
@@ -11,13 +11,15 @@ use crate::report::inputs::{opcodes, pairs, random, refused};
 use crate::report::program::{answer, bytes};
 
 /// The program's own sample, for its folder. A hidden word of what it says is
-/// loaded, doubled and stored; then R1 is open again, and a jump leads to HALT.
+/// loaded, copied and stored; then R1 is open again, and a jump leads to HALT.
+/// The copy has a digit that it does not use, and so has the hidden word that is
+/// jumped over.
 pub fn invented() -> Input {
-    let program = [0x310A, 0x6211, 0x4218, 0x1107, 0x4119, 0xD007, 0x5000, HALT];
+    let program = [0x310A, 0x2F21, 0x4218, 0x1107, 0x4119, 0xD007, 0xEABC, HALT];
     let image = [&program[..], &images::saying_invented()].concat();
     Input {
         breakpoints: vec![6, 0, 6],
-        ..input(&image, &[0x0A, 0x20], 20)
+        ..input(&image, &[0x06, 0x0A, 0x20], 20)
     }
 }
 
@@ -30,13 +32,23 @@ pub fn inputs() -> Vec<Vec<u8>> {
     inputs
 }
 
-/// Each stop, MDR's mark behind a load, hidden values and runs by chance.
+/// Each stop, MDR's mark behind a load, hidden values, runs by chance, and words
+/// whose texts may end in them.
 fn served() -> Vec<Input> {
     let behind = opcodes::behind_a_load();
     let mut served: Vec<Input> = [24, 26, 28, 50].map(|at| behind[at].clone()).to_vec();
     served.extend((0..8).map(|program| pairs::value(program, 0x8001)));
     served.extend((0..8).map(|number| random::any(11 * number)));
+    served.push(partly_used());
     served
+}
+
+/// Each word whose text may end in it, first open and then hidden.
+fn partly_used() -> Input {
+    let hidden: Vec<u8> = (PARTLY_USED.len() as u8..)
+        .take(PARTLY_USED.len())
+        .collect();
+    input(&[PARTLY_USED, PARTLY_USED].concat(), &hidden, 9)
 }
 
 /// Each refusal, alone and before the others, and inputs that are cut or longer

@@ -168,7 +168,8 @@ pub fn registers() -> Vec<Input> {
     for one in 0..16u16 {
         for other in 0..16u16 {
             let load = 0x3000 | one << 8 | DATA;
-            let copy = 0x2000 | other << 4 | one;
+            // The copy does not use x, which is 0 for R0 alone.
+            let copy = 0x2000 | one << 8 | other << 4 | one;
             let sum = 0x6000 | other << 8 | other << 4 | one;
             for next in [copy, sum] {
                 let store = 0x4011 | other << 8;

@@ -20,9 +20,9 @@ const MOVED: u16 = countdowns::VALUES;
 // -- bodies -----------------------------------------------------------------
 
 /// A mark through registers and a word; R9 and the word are open again at the
-/// turn's end, RA to RD are hidden.
+/// turn's end, RA to RD are hidden. Two words have digits that they do not use.
 const MOVING: Body = &[
-    0x3988, 0x20A9, 0x6BA3, 0xCCBB, 0x70C0, 0x8C01, 0x4C89, 0x3D89, 0x1905, 0x4989,
+    0x3988, 0x2EA9, 0x6BA3, 0xCCBB, 0x75CB, 0x8C01, 0x4C89, 0x3D89, 0x1905, 0x4989,
 ];
 
 /// Four words change places, of which one is hidden, and what the first of them
@@ -61,7 +61,7 @@ fn hidden(number: usize, body: &[u16]) -> Met {
     let load = |register: u16| 0x3000 | register << 8 | HIDDEN;
     let (over, turn) = (OUT + 2, body.len());
     let (words, more, marked) = match number {
-        0 => (vec![HALT], 0, vec![OUT]),
+        0 => (vec![0xEABC], 0, vec![OUT]),
         // A jump on what is hidden, on R0 where it is, and one that tells nothing.
         1 => (vec![load(9), 0xD900 | (OUT + 3), HALT, HALT], 1, vec![]),
         2 => (vec![load(0), 0xD300 | (OUT + 3), HALT, HALT], 1, vec![]),
