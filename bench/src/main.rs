@@ -34,7 +34,7 @@ fn main() {
     // Sixteen times as many words: no processor learns their order by heart.
     row(
         "the same, of 16 images in turn",
-        "0.1",
+        "0.12",
         disassembling(&sets),
     );
     row("listing of 256 words", "none", listing(&sets));
