@@ -1,15 +1,15 @@
 -- Two words have equal disassembly exactly when they are equal (02, Change 1): a word can be read off its text, and off the text's field of 32 bytes.
 -- Assumes nothing.
-use Prim.Native.Nat.{ℕ, zero, suc, _+_, _*_, _-_, _<_}
+use Prim.Native.Nat.{ℕ, _+_, _*_, _-_, _<_}
 use Prim.Native.Char.{Char, code}
 use native.Mathlib.Omega.{arith}
 use mathlib.Core.Logic.{_↔_}
 use mathlib.Core.Path.{_≡_, refl, sym, ap, _∙_}
 use mathlib.Core.Bool.{Bool, true, false, cond, not}
-use mathlib.Core.List.{List, [], _∷_, _++_}
+use mathlib.Core.List.{List, _++_}
 use borrow.Author.Tests.{eqb-true, not-true}
 use lib.Dec.{eqb, ltb}
-use lib.ListN.{length, getD, replicate}
+use lib.ListN.{length, getD}
 use Rattle.isa.specs.declared.opcode.Opcode.{Opcode}
 use Rattle.isa.specs.declared.opcode.Opcode.the-variants.{LoadImmediate, LoadRegister, LoadMemory, StoreMemory, Add, Negate}
 use Rattle.isa.specs.declared.opcode.Opcode.the-variants.{ShiftRight, ShiftLeft, And, Or, Xor, Jump, Halt}
@@ -22,6 +22,7 @@ use Rattle.isa.specs.Word.{decodeWord, digitW, digitX, digitY, digitZ}
 use Rattle.isa.specs.Nibbles.{unusedOf, unused}
 use Rattle.isa.specs.Format.{hexDigit, fill}
 use Rattle.isa.proofs.Truths.{tested}
+use Rattle.isa.proofs.Texts.{padded-at}
 use Rattle.isa.proofs.Words.{by-digits, opcode-digit}
 use Rattle.disasm.specs.Disassembly.{template, ending, disassembleText}
 
@@ -144,21 +145,10 @@ module _ (w : ℕ) (h : w < 65536) where
 pub disassembly-tells : (v w : ℕ) → v < 65536 → w < 65536 → (disassembleText v ≡ disassembleText w) ↔ (v ≡ w)
 disassembly-tells v w h k = (λ e. sym (word-read v h) ∙ ap (λ (s : List ℕ). wordIn (bytesOf s)) e ∙ word-read w k, λ e. ap disassembleText e)
 
--- zeros behind a list are what stands past its end
-zeros-past : (k i : ℕ) → getD {A = ℕ} (replicate k 0) i 0 ≡ 0
-zeros-past zero i = refl
-zeros-past (suc k) zero = refl
-zeros-past (suc k) (suc i) = zeros-past k i
-
-padded-past : (s : List ℕ) (k i : ℕ) → getD (s ++ replicate k 0) i 0 ≡ getD s i 0
-padded-past [] k i = zeros-past k i
-padded-past (b ∷ s) k zero = refl
-padded-past (b ∷ s) k (suc i) = padded-past s k i
-
 -- so the field of 32 bytes, zeros behind the text, tells the word too
 field-read : (w : ℕ) → w < 65536 → wordIn (bytesOf (padded textWidth (disassembleText w))) ≡ w
 unfolding padded
-field-read w h = (λ i. wordIn (λ p. padded-past (disassembleText w) (textWidth - length (disassembleText w)) p i)) ∙ word-read w h
+field-read w h = (λ i. wordIn (λ p. padded-at (disassembleText w) (textWidth - length (disassembleText w)) p i)) ∙ word-read w h
 
 pub field-tells : (v w : ℕ) → v < 65536 → w < 65536 → (padded textWidth (disassembleText v) ≡ padded textWidth (disassembleText w)) ↔ (v ≡ w)
 field-tells v w h k =

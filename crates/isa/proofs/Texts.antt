@@ -26,6 +26,17 @@ take-replicate zero n x h = refl
 take-replicate (suc k) zero x h = absurd (omega arith)
 take-replicate (suc k) (suc n) x h = ap (λ (r : List ℕ). x ∷ r) (take-replicate k n x (omega arith))
 
+-- zeros behind a list are what stands past its end
+pub zeros-at : (n i : ℕ) → _≡_ {A = ℕ} (getD (replicate n 0) i 0) 0
+zeros-at zero i = refl
+zeros-at (suc n) zero = refl
+zeros-at (suc n) (suc i) = zeros-at n i
+
+pub padded-at : (xs : List ℕ) (n i : ℕ) → getD (xs ++ replicate n 0) i 0 ≡ getD xs i 0
+padded-at [] n i = zeros-at n i
+padded-at (x ∷ xs) n zero = refl
+padded-at (x ∷ xs) n (suc i) = padded-at xs n i
+
 -- ---- a loop that fills an array of n zeros with xs from the front
 
 -- one byte stored past the live ones

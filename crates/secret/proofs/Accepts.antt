@@ -10,6 +10,7 @@ use lib.Dec.{eqb, ltb}
 use lib.ListN.{length, getD, take, replicate, length-append, length-take, length-replicate}
 use lib.Seq.{getD-take}
 use Rattle.isa.proofs.Truths.{both}
+use Rattle.isa.proofs.Texts.{padded-at}
 use Rattle.vm.specs.Calls.{imageWords}
 use Rattle.marks.specs.Marks.{marked}
 use Rattle.guard.specs.Input.{Input, zeroOne, inputRefusal}
@@ -83,14 +84,6 @@ unfolding imageWords
 words-below image h =
     let z : 0 < 65536 = omega arith in
     append-below 65536 (take 256 image) (replicate (256 - length image) 0) (take-below 65536 256 image z h) (zeros-below 65536 (256 - length image) z)
-
--- zeros behind a list, which is 0 past its end
-padded-at : (l : List ℕ) (n i : ℕ) → getD (l ++ replicate n 0) i 0 ≡ getD l i 0
-padded-at [] zero i = refl
-padded-at [] (suc n) zero = refl
-padded-at [] (suc n) (suc i) = padded-at [] n i
-padded-at (x ∷ l) n zero = refl
-padded-at (x ∷ l) n (suc i) = padded-at l n i
 
 -- the word at an address
 pub words-at : (image : List ℕ) (a : ℕ) → a < 256 → getD (imageWords image) a 0 ≡ getD image a 0

@@ -1,6 +1,6 @@
 -- Laws of the tests of a state (`specs/Refusal.antt`): no touched address twice, and no live text over 32 bytes.
 -- Assumes nothing.
-use Prim.Native.Nat.{ℕ, suc, zero, _≤_, _<_, _-_, _+_}
+use Prim.Native.Nat.{ℕ, suc, _≤_, _<_, _-_, _+_}
 use native.Mathlib.Omega.{arith}
 use native.Mathlib.Numerals.{add-one}
 use mathlib.Core.Path.{_≡_, refl, ap, sym, _∙_}
@@ -14,6 +14,7 @@ use Rattle.isa.specs.Sizes.{memoryWords, textWidth}
 use Rattle.trace.specs.Trace.{turn, shortTexts, traceLimit}
 use Rattle.trace.specs.Touched.{distinct}
 use Rattle.encoding.specs.Bytes.{member}
+use Rattle.isa.proofs.Texts.{zeros-at}
 use Rattle.control.proofs.Lawfuls.{true-false}
 
 -- ---- No address twice, by a table of those seen.
@@ -108,12 +109,7 @@ module _ (seen p : List ℕ) (x : ℕ) (long : length seen ≡ memoryWords) (sma
 
 -- at first the table is all 0
 pub empty-table : (a : ℕ) → _≡_ {A = ℕ} (getD (replicate memoryWords 0) a 0) 0
-empty-table a = zeros memoryWords a
-  where
-    zeros : (n a : ℕ) → _≡_ {A = ℕ} (getD (replicate n 0) a 0) 0
-    zeros zero a = refl
-    zeros (suc n) zero = refl
-    zeros (suc n) (suc a) = zeros n a
+empty-table a = zeros-at memoryWords a
 
 -- no address is there twice
 pub none-twice : distinct [] ≡ true

@@ -7,10 +7,11 @@ use mathlib.Core.Bool.{Bool, true, false, cond, _&&_}
 use mathlib.Core.List.{List, [], _++_, append-nil}
 use borrow.Author.Tests.{ltb-false, eqb-true, ne-eqb}
 use lib.Dec.{eqb, ltb}
-use lib.ListN.{length, getD, replicate, length-replicate}
+use lib.ListN.{length, replicate, length-replicate}
 use lib.Seq.{take-all}
 use Rattle.isa.specs.Sizes.{memoryWords}
 use Rattle.isa.proofs.Truths.{both}
+use Rattle.isa.proofs.Texts.{zeros-at}
 use Rattle.trace.specs.Trace.{columnsLength}
 use Rattle.vm.specs.declared.machine.Machine.{Machine as Code}
 use Rattle.vm.specs.Forms.{Fit, Sizes}
@@ -23,11 +24,6 @@ use Rattle.vm.proofs.Fits.{fit}
 
 -- ---- a new machine
 
-zeros : (n i : ℕ) → _≡_ {A = ℕ} (getD (replicate n 0) i 0) 0
-zeros zero i = refl
-zeros (suc n) zero = refl
-zeros (suc n) (suc i) = zeros n i
-
 long : (n : ℕ) → length (replicate {A = ℕ} n 0) ≡ n
 long n = length-replicate {A = ℕ} n 0
 
@@ -37,7 +33,7 @@ new-fit image n h le =
     let z : Sizes (partsOf (restarted image n h)) =
     record {
       touched = long memoryWords;
-      bytes = λ i. omega (arith, zeros memoryWords i);
+      bytes = λ i. omega (arith, zeros-at memoryWords i);
       columns = long columnsLength;
       numbers = long 512;
       lengths = long 512;
