@@ -12,7 +12,7 @@ use Rattle.isa.specs.declared.opcode.Decoded.the-variants.{Known, Unknown}
 use Rattle.isa.specs.Word.{decodeWord, digitX, digitY, digitZ}
 use Rattle.control.specs.Address.{reachedAddress}
 use Rattle.marks.specs.declared.Moved.{Moved}
-use Rattle.marks.specs.Marks.{Marks, mdrMarked, joinedYZ, executedMarks, instructionMarks}
+use Rattle.marks.specs.Marks.{Marks, mdrMarked, joinedYZ, sameSources, shiftsOut, executedMarks, instructionMarks}
 use Rattle.marks.specs.Forms.{moves}
 
 -- a register and the word at yz get a mark, and MDR
@@ -24,7 +24,7 @@ module _ (w : ℕ) (m r : List ℕ) where
   start = record { memory = m; registers = r; mdr = 0 }
 
   abbrev moveOf : Decoded → Moved
-  moveOf d = moves d (getD r (digitX w) 0) (getD r (digitY w) 0) (getD r (digitZ w) 0) (joinedYZ w start) (getD m (reachedAddress w) 0)
+  moveOf d = moves d (sameSources w) (shiftsOut w) (getD r (digitX w) 0) (getD r (digitY w) 0) (getD r (digitZ w) 0) (joinedYZ w start) (getD m (reachedAddress w) 0)
 
   -- the word keeps its mark
   kept : (i n q : ℕ) → _≡_ {A = Marks} (record { memory = m; registers = set r i n; mdr = q }) (record { memory = set m (reachedAddress w) (getD m (reachedAddress w) 0); registers = set r i n; mdr = q })
@@ -41,22 +41,22 @@ module _ (w : ℕ) (m r : List ℕ) where
   executed (Known StoreMemory) = λ k. record { memory = set m (reachedAddress w) (getD r (digitX w) 0); registers = sym (set-getD r (digitX w) 0) k; mdr = getD r (digitX w) 0 }
   executed (Known Add) = kept (digitX w) (joinedYZ w start) 0
   executed (Known Negate) = kept (digitY w) (getD r (digitY w) 0) 0
-  executed (Known ShiftRight) = kept (digitX w) (getD r (digitX w) 0) 0
-  executed (Known ShiftLeft) = kept (digitX w) (getD r (digitX w) 0) 0
+  executed (Known ShiftRight) = kept (digitX w) (cond (shiftsOut w) 0 (getD r (digitX w) 0)) 0
+  executed (Known ShiftLeft) = kept (digitX w) (cond (shiftsOut w) 0 (getD r (digitX w) 0)) 0
   executed (Known And) = kept (digitX w) (joinedYZ w start) 0
   executed (Known Or) = kept (digitX w) (joinedYZ w start) 0
-  executed (Known Xor) = kept (digitX w) (joinedYZ w start) 0
+  executed (Known Xor) = kept (digitX w) (cond (sameSources w) 0 (joinedYZ w start)) 0
   executed (Known Jump) = still
   executed (Known Halt) = still
   executed Unknown = still
 
-  -- by what the code finds: the word's address, the marks joined, what moves, the register
-  pub marks-moved : (d : Decoded) {a j t : ℕ} {v : Moved} → a ≡ reachedAddress w → j ≡ joinedYZ w start
-      → v ≡ moves d (getD r (digitX w) 0) (getD r (digitY w) 0) (getD r (digitZ w) 0) j (getD m a 0) → t ≡ cond (v .«to_y») (digitY w) (digitX w)
+  -- by what the code finds: the word's address, the marks joined, whether y is z, whether yz shifts out, what moves, the register
+  pub marks-moved : (d : Decoded) {a j t : ℕ} {same out : Bool} {v : Moved} → a ≡ reachedAddress w → j ≡ joinedYZ w start → same ≡ sameSources w → out ≡ shiftsOut w
+      → v ≡ moves d same out (getD r (digitX w) 0) (getD r (digitY w) 0) (getD r (digitZ w) 0) j (getD m a 0) → t ≡ cond (v .«to_y») (digitY w) (digitX w)
       → record { memory = set m a (v .word); registers = set r t (v .register); mdr = v .mdr } ≡ executedMarks d w start
-  marks-moved d {v = v} p j e t =
+  marks-moved d {v = v} p j s o e t =
       (λ i. record { memory = set m (p i) (v .word); registers = set r (t i) (v .register); mdr = v .mdr })
-      ∙ ap (λ (x : Moved). markedBy w x m r) (e ∙ (λ i. moves d (getD r (digitX w) 0) (getD r (digitY w) 0) (getD r (digitZ w) 0) (j i) (getD m (p i) 0)))
+      ∙ ap (λ (x : Moved). markedBy w x m r) (e ∙ (λ i. moves d (s i) (o i) (getD r (digitX w) 0) (getD r (digitY w) 0) (getD r (digitZ w) 0) (j i) (getD m (p i) 0)))
       ∙ sym (executed d)
 
 -- whatever MDR's mark was: a fetch opens it

@@ -2,7 +2,7 @@
 -- It is one form for every instruction: register x, or y, the word that LOAD or STORE reaches, and MDR get a mark.
 -- Assumes nothing.
 use Prim.Native.Nat.{ℕ}
-use mathlib.Core.Bool.{Bool, true, false}
+use mathlib.Core.Bool.{Bool, true, false, cond}
 use Rattle.isa.specs.declared.opcode.Opcode.the-variants.{LoadImmediate, LoadRegister, LoadMemory, StoreMemory, Add, Negate, ShiftRight, ShiftLeft, And, Or, Xor, Jump, Halt}
 use Rattle.isa.specs.declared.opcode.Decoded.{Decoded}
 use Rattle.isa.specs.declared.opcode.Decoded.the-variants.{Known, Unknown}
@@ -16,19 +16,19 @@ oneMark y n m = record { «to_y» = y; register = n; word = m; mdr = 0 }
 abbrev pub allMarks : ℕ → Moved
 allMarks n = record { «to_y» = false; register = n; word = n; mdr = n }
 
--- from the marks of x, y, z, of y and z joined, and of the word
-abbrev pub moves : Decoded → ℕ → ℕ → ℕ → ℕ → ℕ → Moved
-moves (Known LoadImmediate) x y z j m = oneMark false 0 m
-moves (Known LoadRegister) x y z j m = oneMark true z m
-moves (Known LoadMemory) x y z j m = allMarks m
-moves (Known StoreMemory) x y z j m = allMarks x
-moves (Known Add) x y z j m = oneMark false j m
-moves (Known Negate) x y z j m = oneMark true y m
-moves (Known ShiftRight) x y z j m = oneMark false x m
-moves (Known ShiftLeft) x y z j m = oneMark false x m
-moves (Known And) x y z j m = oneMark false j m
-moves (Known Or) x y z j m = oneMark false j m
-moves (Known Xor) x y z j m = oneMark false j m
-moves (Known Jump) x y z j m = oneMark false x m
-moves (Known Halt) x y z j m = oneMark false x m
-moves Unknown x y z j m = oneMark false x m
+-- from whether y is z, whether yz shifts out, and the marks of x, y, z, of y and z joined, and of the word
+abbrev pub moves : Decoded → Bool → Bool → ℕ → ℕ → ℕ → ℕ → ℕ → Moved
+moves (Known LoadImmediate) same out x y z j m = oneMark false 0 m
+moves (Known LoadRegister) same out x y z j m = oneMark true z m
+moves (Known LoadMemory) same out x y z j m = allMarks m
+moves (Known StoreMemory) same out x y z j m = allMarks x
+moves (Known Add) same out x y z j m = oneMark false j m
+moves (Known Negate) same out x y z j m = oneMark true y m
+moves (Known ShiftRight) same out x y z j m = oneMark false (cond out 0 x) m
+moves (Known ShiftLeft) same out x y z j m = oneMark false (cond out 0 x) m
+moves (Known And) same out x y z j m = oneMark false j m
+moves (Known Or) same out x y z j m = oneMark false j m
+moves (Known Xor) same out x y z j m = oneMark false (cond same 0 j) m
+moves (Known Jump) same out x y z j m = oneMark false x m
+moves (Known Halt) same out x y z j m = oneMark false x m
+moves Unknown same out x y z j m = oneMark false x m

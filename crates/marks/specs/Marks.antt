@@ -1,14 +1,14 @@
--- Marks (01, section 5): which words of memory, which registers, and whether MDR are hidden, and how an instruction moves them.
+-- Marks (01, section 5; 02, Change 2): which words of memory, which registers, and whether MDR are hidden, and how an instruction moves them.
 -- Assumes nothing.
 use Prim.Native.Nat.{ℕ, max}
 use mathlib.Core.Bool.{Bool, cond, not}
 use mathlib.Core.List.{List}
-use lib.Dec.{eqb}
+use lib.Dec.{eqb, leb}
 use lib.ListN.{getD, set}
 use Rattle.isa.specs.declared.opcode.Opcode.the-variants.{LoadImmediate, LoadRegister, LoadMemory, StoreMemory, Add, Negate, ShiftRight, ShiftLeft, And, Or, Xor, Jump, Halt}
 use Rattle.isa.specs.declared.opcode.Decoded.{Decoded}
 use Rattle.isa.specs.declared.opcode.Decoded.the-variants.{Known, Unknown}
-use Rattle.isa.specs.Word.{decodeWord, digitX, digitY, digitZ}
+use Rattle.isa.specs.Word.{decodeWord, digitX, digitY, digitZ, byteYZ}
 use Rattle.control.specs.Address.{reachedAddress}
 
 -- a mark of 0 is open
@@ -53,6 +53,13 @@ wordMarked a n k = record { memory = set (k .memory) a n; registers = k .registe
 abbrev pub joinedYZ : ℕ → Marks → ℕ
 joinedYZ w k = joined (registerMark (digitY w) k) (registerMark (digitZ w) k)
 
+-- 02, Change 2: XOR with y = z, and a shift with yz of 16 or more, give 0 for every input and open their target; the word alone tells
+abbrev pub sameSources : ℕ → Bool
+sameSources w = eqb (digitY w) (digitZ w)
+
+abbrev pub shiftsOut : ℕ → Bool
+shiftsOut w = leb 16 (byteYZ w)
+
 -- what the instruction w does to the marks once its fetch has opened MDR; to keep a mark is to set it to itself
 abbrev pub executedMarks : Decoded → ℕ → Marks → Marks
 executedMarks (Known LoadImmediate) w k = registerMarked (digitX w) 0 k
@@ -61,11 +68,11 @@ executedMarks (Known LoadMemory) w k = let n = wordMark (reachedAddress w) k in 
 executedMarks (Known StoreMemory) w k = let n = registerMark (digitX w) k in wordMarked (reachedAddress w) n (mdrMarked n k)
 executedMarks (Known Add) w k = registerMarked (digitX w) (joinedYZ w k) k
 executedMarks (Known Negate) w k = registerMarked (digitY w) (registerMark (digitY w) k) k
-executedMarks (Known ShiftRight) w k = registerMarked (digitX w) (registerMark (digitX w) k) k
-executedMarks (Known ShiftLeft) w k = registerMarked (digitX w) (registerMark (digitX w) k) k
+executedMarks (Known ShiftRight) w k = registerMarked (digitX w) (cond (shiftsOut w) 0 (registerMark (digitX w) k)) k
+executedMarks (Known ShiftLeft) w k = registerMarked (digitX w) (cond (shiftsOut w) 0 (registerMark (digitX w) k)) k
 executedMarks (Known And) w k = registerMarked (digitX w) (joinedYZ w k) k
 executedMarks (Known Or) w k = registerMarked (digitX w) (joinedYZ w k) k
-executedMarks (Known Xor) w k = registerMarked (digitX w) (joinedYZ w k) k
+executedMarks (Known Xor) w k = registerMarked (digitX w) (cond (sameSources w) 0 (joinedYZ w k)) k
 executedMarks (Known Jump) w k = k
 executedMarks (Known Halt) w k = k
 executedMarks Unknown w k = k

@@ -1,7 +1,7 @@
 // Marks: which words and registers are hidden, and how an instruction moves that. A mark of 0 is open.
 ghost use mathlib.Core.Path.{_≡_};
 ghost use mathlib.Core.Bool.{cond};
-ghost use Rattle.marks.specs.Marks.{marked, marksOf, shown, joined, executedMarks, instructionMarks};
+ghost use Rattle.marks.specs.Marks.{marked, marksOf, shown, joined, sameSources, shiftsOut, executedMarks, instructionMarks};
 ghost use Rattle.marks.specs.Forms.{oneMark, allMarks, moves};
 use control::reached_address;
 use isa::Decoded;
@@ -9,6 +9,7 @@ use isa::Instruction;
 use isa::MEMORY_WORDS;
 use isa::Opcode;
 use isa::REGISTER_COUNT;
+use isa::WORD_BITS;
 
 pub struct Marks {
     pub memory: [u8; MEMORY_WORDS],
@@ -46,6 +47,27 @@ fn join(a: u8, b: u8) -> u8
     if a < b { b } else { a }
 }
 
+// Whether XOR has one register for both sources, so that it gives 0 whatever that holds.
+fn has_same_sources(word: u16) -> bool
+    ensures { λ r. ⌜ r ≡ sameSources word ⌝ }
+{
+    word / 16 % 16 == word % 16
+}
+
+// Whether a shift moves every bit out, so that it gives 0 whatever its register holds.
+fn shifts_out(word: u16) -> bool
+    ensures { λ r. ⌜ r ≡ shiftsOut word ⌝ }
+{
+    WORD_BITS <= (word % 256) as u32
+}
+
+// The mark of a result, which is open where it is 0 for every input.
+fn open_if(cleared: bool, mark: u8) -> u8
+    ensures { λ r. ⌜ r ≡ cond cleared 0 mark ⌝ }
+{
+    if cleared { 0 } else { mark }
+}
+
 // Where a register alone gets a mark: the word keeps its own, and the fetch has opened MDR.
 fn one_mark(to_y: bool, register: u8, word: u8) -> Moved
     ensures { λ r. ⌜ r ≡ oneMark «to_y» register word ⌝ }
@@ -70,9 +92,18 @@ fn all_marks(mark: u8) -> Moved
     }
 }
 
-// From the marks of x, y, z, of y and z joined, and of the word.
-fn moves_of(decoded: Decoded, x: u8, y: u8, z: u8, both: u8, word: u8) -> Moved
-    ensures { λ r. ⌜ r ≡ moves decoded x y z both word ⌝ }
+// From whether y is z, whether yz shifts out, and the marks of x, y, z, of y and z joined, and of the word.
+fn moves_of(
+    decoded: Decoded,
+    same: bool,
+    out: bool,
+    x: u8,
+    y: u8,
+    z: u8,
+    both: u8,
+    word: u8,
+) -> Moved
+    ensures { λ r. ⌜ r ≡ moves decoded same out x y z both word ⌝ }
 {
     let Decoded::Known(opcode) = decoded else {
         return one_mark(false, x, word);
@@ -84,11 +115,11 @@ fn moves_of(decoded: Decoded, x: u8, y: u8, z: u8, both: u8, word: u8) -> Moved
         Opcode::StoreMemory => all_marks(x),
         Opcode::Add => one_mark(false, both, word),
         Opcode::Negate => one_mark(true, y, word),
-        Opcode::ShiftRight => one_mark(false, x, word),
-        Opcode::ShiftLeft => one_mark(false, x, word),
+        Opcode::ShiftRight => one_mark(false, open_if(out, x), word),
+        Opcode::ShiftLeft => one_mark(false, open_if(out, x), word),
         Opcode::And => one_mark(false, both, word),
         Opcode::Or => one_mark(false, both, word),
-        Opcode::Xor => one_mark(false, both, word),
+        Opcode::Xor => one_mark(false, open_if(same, both), word),
         Opcode::Jump => one_mark(false, x, word),
         Opcode::Halt => one_mark(false, x, word),
     }
@@ -117,7 +148,18 @@ pub fn mark_decoded(
     let second = registers[y];
     let third = registers[z];
     let both = join(second, third);
-    let m = moves_of(decoded, registers[x], second, third, both, memory[at]);
+    let same = has_same_sources(word);
+    let out = shifts_out(word);
+    let m = moves_of(
+        decoded,
+        same,
+        out,
+        registers[x],
+        second,
+        third,
+        both,
+        memory[at],
+    );
     let to = pick(m.to_y, x, y);
     registers[to] = m.register;
     memory[at] = m.word;

@@ -3,8 +3,8 @@
 use Prim.Native.Nat.{ℕ, zero, suc, _<_}
 use native.Mathlib.Nat.{suc-inj}
 use native.Mathlib.Omega.{arith}
-use mathlib.Core.Path.{_≡_, refl, ap, ap₂}
-use mathlib.Core.Bool.{Bool}
+use mathlib.Core.Path.{_≡_, refl, ap, ap₂, sym, _∙_}
+use mathlib.Core.Bool.{Bool, true, false, cond}
 use mathlib.Core.List.{List, [], _∷_}
 use lib.ListN.{length, getD, set}
 use Rattle.marks.specs.Marks.{joined}
@@ -16,6 +16,11 @@ module _ {hid : ℕ → Bool} where
 
   pub twin-map : (f : ℕ → ℕ) {m a b : ℕ} → Twin hid m a b → Twin hid m (f a) (f b)
   twin-map f t = record { seen = λ p. ap f (t .seen p) }
+
+  -- the mark of what is opened where it is 0 in both
+  pub twin-cleared : (c : Bool) {m a b : ℕ} → (c ≡ true → a ≡ 0) → (c ≡ true → b ≡ 0) → Twin hid m a b → Twin hid (cond c 0 m) a b
+  twin-cleared true e f t = record { seen = λ p. e refl ∙ sym (f refl) }
+  twin-cleared false e f t = t
 
   pub twins-get : {k v w : List ℕ} → Twins hid k v w → (i : ℕ) → Twin hid (getD k i 0) (getD v i 0) (getD w i 0)
   twins-get nil i = twin-refl

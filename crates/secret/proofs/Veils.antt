@@ -2,7 +2,7 @@
 -- Assumes nothing.
 use Prim.Native.Nat.{ℕ}
 use mathlib.Core.Path.{_≡_, refl, ap, ap₂, sym, subst, _∙_}
-use mathlib.Core.Bool.{Bool, true, false, not, _&&_, _||_}
+use mathlib.Core.Bool.{Bool, true, false, cond, not, _&&_, _||_}
 use mathlib.Core.List.{List}
 use borrow.Author.Tests.{eqb-true, eq-eqb}
 use lib.Bits.{bitAnd, bitOr, bitXor}
@@ -12,16 +12,18 @@ use Rattle.isa.specs.declared.opcode.Opcode.the-variants.{LoadImmediate, LoadRe
 use Rattle.isa.specs.declared.opcode.Decoded.{Decoded}
 use Rattle.isa.specs.declared.opcode.Decoded.the-variants.{Known, Unknown}
 use Rattle.isa.specs.Word.{decodeWord, digitX, digitY, digitZ, byteYZ}
+use Rattle.control.specs.Address.{reachedAddress}
 use Rattle.plan.specs.Plan.{executeText}
 use Rattle.tick.specs.Tick.{executeTick, sum16, negate16, right16, left16}
 use Rattle.control.specs.Count.{countTick}
 use Rattle.vm.specs.Machine.{Machine}
 use Rattle.vm.specs.Instruction.{stepInstruction}
-use Rattle.marks.specs.Marks.{Marks, mdrMarked, executedMarks, instructionMarks}
+use Rattle.marks.specs.Marks.{Marks, mdrMarked, sameSources, shiftsOut, executedMarks, instructionMarks}
 use Rattle.vm.specs.Guard.{Guarded, nextWord, guardedStep}
 use Rattle.guard.specs.Stops.{isJump, hiddenJump}
 use Rattle.secret.proofs.Levels.{Twin, Twins, Level, Joins}
-use Rattle.secret.proofs.Twins.{twin-refl, twin-map, twins-get, twins-set, twin-join}
+use Rattle.secret.proofs.Twins.{twin-refl, twin-map, twins-get, twins-set, twin-join, twin-cleared}
+use Rattle.secret.proofs.Clears.{right-cleared, left-cleared, xor-cleared}
 use Rattle.vm.proofs.Steps.{Public, publicOf, Hidden, hiddenOf, whole, fetched, fetchedHidden, decoded, finished, instruction-ticks}
 
 or-false : (a b : Bool) → (a || b) ≡ false → (a ≡ false) × (b ≡ false)
@@ -61,15 +63,19 @@ module _ (hid : ℕ → Bool) where
           ap₂ eqb (twins-get g x .seen (b .0)) (twins-get g 0 .seen (b .1))
 
   module _ (J : Joins hid) (p : Public) {k : Marks} {a b : Hidden} (g : Agree k a b) where
-    -- a register's twins, a register that is written, and the word at yz
+    -- a register's twins, a register that is written, and the word that LOAD or STORE reaches
     reg : (r : ℕ) → Twin hid (getD (k .registers) r 0) (getD (a .registers) r 0) (getD (b .registers) r 0)
     reg r = twins-get (g .registers) r
 
     put : (r : ℕ) {n x y : ℕ} → Twin hid n x y → Twins hid (set (k .registers) r n) (set (a .registers) r x) (set (b .registers) r y)
     put r t = twins-set (g .registers) r t
 
-    word : Twin hid (getD (k .memory) (byteYZ (p .ir)) 0) (getD (a .memory) (byteYZ (p .ir)) 0) (getD (b .memory) (byteYZ (p .ir)) 0)
-    word = twins-get (g .memory) (byteYZ (p .ir))
+    word : Twin hid (getD (k .memory) (reachedAddress (p .ir)) 0) (getD (a .memory) (reachedAddress (p .ir)) 0) (getD (b .memory) (reachedAddress (p .ir)) 0)
+    word = twins-get (g .memory) (reachedAddress (p .ir))
+
+    -- a register that is opened where both machines have 0 in it, whatever they had before
+    clear : (c : Bool) (r : ℕ) {m x y : ℕ} → (c ≡ true → x ≡ 0) → (c ≡ true → y ≡ 0) → Twin hid m x y → Twins hid (set (k .registers) r (cond c 0 m)) (set (a .registers) r x) (set (b .registers) r y)
+    clear c r e f t = put r (twin-cleared c e f t)
 
     -- a jump's public part by its test; no other instruction's has one
     jumps : unseen (p .ir) (k .registers) ≡ false → publicOf (finished (Known Jump) p a) ≡ publicOf (finished (Known Jump) p b)
@@ -82,14 +88,14 @@ module _ (hid : ℕ → Bool) where
     rests (Known LoadImmediate) h = record { public = refl; rest = refl; memory = g .memory; registers = put (digitX (p .ir)) twin-refl; mdr = g .mdr }
     rests (Known LoadRegister) h = record { public = refl; rest = refl; memory = g .memory; registers = put (digitY (p .ir)) (reg (digitZ (p .ir))); mdr = g .mdr }
     rests (Known LoadMemory) h = record { public = refl; rest = refl; memory = g .memory; registers = put (digitX (p .ir)) word; mdr = word }
-    rests (Known StoreMemory) h = record { public = refl; rest = refl; memory = twins-set (g .memory) (byteYZ (p .ir)) (reg (digitX (p .ir))); registers = g .registers; mdr = reg (digitX (p .ir)) }
+    rests (Known StoreMemory) h = record { public = refl; rest = refl; memory = twins-set (g .memory) (reachedAddress (p .ir)) (reg (digitX (p .ir))); registers = g .registers; mdr = reg (digitX (p .ir)) }
     rests (Known Add) h = record { public = refl; rest = refl; memory = g .memory; registers = put (digitX (p .ir)) (twin-join J sum16 (reg (digitY (p .ir))) (reg (digitZ (p .ir)))); mdr = g .mdr }
     rests (Known Negate) h = record { public = refl; rest = refl; memory = g .memory; registers = put (digitY (p .ir)) (twin-map negate16 (reg (digitY (p .ir)))); mdr = g .mdr }
-    rests (Known ShiftRight) h = record { public = refl; rest = refl; memory = g .memory; registers = put (digitX (p .ir)) (twin-map (right16 (byteYZ (p .ir))) (reg (digitX (p .ir)))); mdr = g .mdr }
-    rests (Known ShiftLeft) h = record { public = refl; rest = refl; memory = g .memory; registers = put (digitX (p .ir)) (twin-map (left16 (byteYZ (p .ir))) (reg (digitX (p .ir)))); mdr = g .mdr }
+    rests (Known ShiftRight) h = record { public = refl; rest = refl; memory = g .memory; registers = clear (shiftsOut (p .ir)) (digitX (p .ir)) (right-cleared (p .ir) (a .registers)) (right-cleared (p .ir) (b .registers)) (twin-map (right16 (byteYZ (p .ir))) (reg (digitX (p .ir)))); mdr = g .mdr }
+    rests (Known ShiftLeft) h = record { public = refl; rest = refl; memory = g .memory; registers = clear (shiftsOut (p .ir)) (digitX (p .ir)) (left-cleared (p .ir) (a .registers)) (left-cleared (p .ir) (b .registers)) (twin-map (left16 (byteYZ (p .ir))) (reg (digitX (p .ir)))); mdr = g .mdr }
     rests (Known And) h = record { public = refl; rest = refl; memory = g .memory; registers = put (digitX (p .ir)) (twin-join J bitAnd (reg (digitY (p .ir))) (reg (digitZ (p .ir)))); mdr = g .mdr }
     rests (Known Or) h = record { public = refl; rest = refl; memory = g .memory; registers = put (digitX (p .ir)) (twin-join J bitOr (reg (digitY (p .ir))) (reg (digitZ (p .ir)))); mdr = g .mdr }
-    rests (Known Xor) h = record { public = refl; rest = refl; memory = g .memory; registers = put (digitX (p .ir)) (twin-join J bitXor (reg (digitY (p .ir))) (reg (digitZ (p .ir)))); mdr = g .mdr }
+    rests (Known Xor) h = record { public = refl; rest = refl; memory = g .memory; registers = clear (sameSources (p .ir)) (digitX (p .ir)) (xor-cleared (p .ir) (a .registers)) (xor-cleared (p .ir) (b .registers)) (twin-join J bitXor (reg (digitY (p .ir))) (reg (digitZ (p .ir)))); mdr = g .mdr }
     rests (Known Jump) h = record { public = jumps h; rest = refl; memory = g .memory; registers = g .registers; mdr = g .mdr }
     rests (Known Halt) h = record { public = refl; rest = refl; memory = g .memory; registers = g .registers; mdr = g .mdr }
     rests Unknown h = record { public = refl; rest = refl; memory = g .memory; registers = g .registers; mdr = g .mdr }

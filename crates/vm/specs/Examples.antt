@@ -1,5 +1,5 @@
--- Worked examples (01, section 9, 1* to 13*). Each row has the example's number, a machine and the number of ticks that it makes, or the input of a
--- guarded run, and what is then seen. One theorem says that the definitions give each row.
+-- Worked examples (01, section 9, 1* to 13*; 02, Change 2). Each row has the number of the example or of the change, a machine and the number of ticks that
+-- it makes, or the input of a guarded run, and what is then seen. One theorem says that the definitions give each row.
 -- Assumes nothing.
 use Prim.Native.Nat.{ℕ, zero, suc, _-_}
 use Prim.Native.String.{String}
@@ -94,15 +94,20 @@ seen (guarded i) =
     let k = e .guarded .marks in
     seenOf (stopNumber (e .stop) ∷ []) (getD (k .registers) 1 0 ∷ getD (k .memory) 0x11 0 ∷ getD (k .memory) 0x12 0 ∷ []) (e .guarded .machine)
 
+-- document 01's example, or document 02's change, of that number
+pub data Source : Type 0 where
+  example : ℕ → Source
+  change : ℕ → Source
+
 pub record Row : Type 0 where
-  pub number : ℕ
+  pub source : Source
   pub given : Given
   pub answer : Seen
 
 -- the example; image, registers, PC, ticks; text, R1, PC, instructions, halted, fault. All of them fetch once and write nothing
 abbrev pub row : ℕ → List ℕ → List ℕ → ℕ → ℕ → String → ℕ → ℕ → ℕ → Bool → Fault → Row
 row e image words p n x v q k h f = record {
-  number = e;
+  source = example e;
   given = ticks image words p n;
   answer = record {
     stop = [];
@@ -128,10 +133,10 @@ hiding program value = record {
   breaks = [];
 }
 
--- the example; the input of a guarded run; the stop, the marks of R1 and of words 11 and 12, text, R1, PC, instructions, ticks, reads, writes, halted, fault
-abbrev pub guardedRow : ℕ → Input → ℕ → List ℕ → String → ℕ → ℕ → ℕ → ℕ → ℕ → ℕ → Bool → Fault → Row
+-- the source; the input of a guarded run; the stop, the marks of R1 and of words 11 and 12, text, R1, PC, instructions, ticks, reads, writes, halted, fault
+abbrev pub guardedRow : Source → Input → ℕ → List ℕ → String → ℕ → ℕ → ℕ → ℕ → ℕ → ℕ → Bool → Fault → Row
 guardedRow e i s g x v q k n a b h f = record {
-  number = e;
+  source = e;
   given = guarded i;
   answer = record {
     stop = s ∷ [];
@@ -152,6 +157,18 @@ guardedRow e i s g x v q k n a b h f = record {
 abbrev pub breaking : Input
 breaking = record { image = 0xE000 ∷ []; marks = replicate memoryWords 0; budget = 1; breaks = 0 ∷ [] }
 
+-- Change 2: R1 from word 10, the word w, a jump on R1, and HALT either way
+abbrev pub jumpingBehind : ℕ → Input
+jumpingBehind w = hiding (0x3110 ∷ w ∷ 0xD105 ∷ 0xE000 ∷ 0 ∷ 0xE000 ∷ []) 0x1234
+
+-- the word cleared R1: the jump is taken
+abbrev pub cleared : ℕ → Row
+cleared w = guardedRow (change 2) (jumpingBehind w) 0 (0 ∷ 0 ∷ 0 ∷ []) "PC + 1 -> PC" 0 6 4 21 5 0 true Healthy
+
+-- it did not: stop 5 at the jump, with the word's text and R1
+abbrev pub uncleared : ℕ → String → ℕ → Row
+uncleared w x v = guardedRow (change 2) (jumpingBehind w) 5 (1 ∷ 0 ∷ 0 ∷ []) x v 2 2 12 3 0 false Healthy
+
 -- 2* has three rows; 9* has its jump untaken, and then taken
 unfoldable pub rows : List Row
 rows =
@@ -167,10 +184,18 @@ rows =
     ∷ row 8 (replicate 255 0 ++ (0x1105 ∷ [])) [] 255 4 "PC + 1 -> PC" 0 0 0 false Healthy
     ∷ row 9 (0xD120 ∷ []) (0 ∷ 1 ∷ []) 0 5 "if R1 = R0: 20 -> PC (not taken)" 1 1 1 false Healthy
     ∷ row 9 (0xD120 ∷ []) (7 ∷ 7 ∷ []) 0 5 "if R1 = R0: 20 -> PC" 7 0x20 1 false Healthy
-    ∷ guardedRow 10 breaking 0 (0 ∷ 0 ∷ 0 ∷ []) "PC + 1 -> PC" 0 1 1 4 1 0 true Healthy
-    ∷ guardedRow 11 (hiding (0x3110 ∷ 0x4111 ∷ 0x1105 ∷ 0x4112 ∷ 0xE000 ∷ []) 0x1234) 0 (0 ∷ 1 ∷ 0 ∷ []) "PC + 1 -> PC" 5 5 5 30 6 2 true Healthy
-    ∷ guardedRow 12 (hiding (0x3110 ∷ 0xD105 ∷ []) 0x1234) 5 (1 ∷ 0 ∷ 0 ∷ []) "MDR -> R1" 0x1234 1 1 7 2 0 false Healthy
-    ∷ guardedRow 13 (hiding (0x3010 ∷ 0xD005 ∷ []) 0x1234) 2 (0 ∷ 0 ∷ 0 ∷ []) "PC + 1 -> PC" 0 6 2 16 4 0 true (UnknownInstruction 0 5)
+    ∷ guardedRow (example 10) breaking 0 (0 ∷ 0 ∷ 0 ∷ []) "PC + 1 -> PC" 0 1 1 4 1 0 true Healthy
+    ∷ guardedRow (example 11) (hiding (0x3110 ∷ 0x4111 ∷ 0x1105 ∷ 0x4112 ∷ 0xE000 ∷ []) 0x1234) 0 (0 ∷ 1 ∷ 0 ∷ []) "PC + 1 -> PC" 5 5 5 30 6 2 true Healthy
+    ∷ guardedRow (example 12) (hiding (0x3110 ∷ 0xD105 ∷ []) 0x1234) 5 (1 ∷ 0 ∷ 0 ∷ []) "MDR -> R1" 0x1234 1 1 7 2 0 false Healthy
+    ∷ guardedRow (example 13) (hiding (0x3010 ∷ 0xD005 ∷ []) 0x1234) 2 (0 ∷ 0 ∷ 0 ∷ []) "PC + 1 -> PC" 0 6 2 16 4 0 true (UnknownInstruction 0 5)
+    ∷ cleared 0xC111
+    ∷ cleared 0xC122
+    ∷ uncleared 0xC112 "R1 XOR R2 -> R1" 0x1234
+    ∷ uncleared 0xA111 "R1 AND R1 -> R1" 0x1234
+    ∷ cleared 0x8110
+    ∷ uncleared 0x810F "R1 >> 0F -> R1" 0
+    ∷ cleared 0x9110
+    ∷ uncleared 0x910F "R1 << 0F -> R1" 0
     ∷ []
 
 pub rows-hold : map (λ (r : Row). seen (r .given)) rows ≡ map (λ (r : Row). r .answer) rows
