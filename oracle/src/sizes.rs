@@ -12,6 +12,8 @@ pub const LISTING_WORDS: usize = 256;
 /// bytes decide every answer of the listing program.
 pub const LISTING_TOO_LONG: usize = 2 * (LISTING_WORDS + 1);
 pub const REGISTERS: usize = 16;
+/// The bits of a word: a shift by so many, or by more, leaves nothing.
+pub const WORD_BITS: u8 = 16;
 /// The bytes that a text has room for.
 pub const TEXT: usize = 32;
 /// The most records that a trace has.

@@ -1,11 +1,12 @@
 //! The model of the guarded run, of its report and of the report program, held
-//! to sentences of document 01 by answers that are written out here.
+//! to sentences of document 01, and to document 02, Change 2, by answers that are
+//! written out here.
 
 use oracle::record;
 use oracle::report::bytes::LONGEST;
 use oracle::report::guarded::{self, Input, Run, Stop};
 use oracle::report::inputs::examples::{self, input, marks_at, with_word_10};
-use oracle::report::inputs::{self, pairs, sample, Relation, FAMILIES};
+use oracle::report::inputs::{self, cleared, pairs, sample, Relation, FAMILIES};
 use oracle::report::program::{answer, bytes, refused, DECIDING};
 
 const HALT: u16 = 0xE000;
@@ -255,6 +256,9 @@ fn a_marked_value_is_written_0000() {
         assert_eq!(marked.len(), count, "kind {kind}");
         assert!(marked.iter().all(|record| record[3..] == [0, 0]));
     }
+    // What was cleared is open, and 0 all the same.
+    assert_eq!(of_kind(&report, 5)[7], [5, 7, 0, 0, 0]);
+    assert_eq!(of_kind(&report, 6)[0x14], [6, 0x14, 0, 0, 0]);
 }
 
 /// What is written is noted, though the value is the same.
@@ -339,28 +343,163 @@ fn how_instructions_move_marks() {
         [hidden, open, open, hidden]
     );
     for opcode in [0x6000, 0xA000, 0xB000, 0xC000] {
-        assert_eq!(
-            marks_behind(&[opcode | 0x213]),
-            [hidden, hidden, open, open]
-        );
-        assert_eq!(
-            marks_behind(&[opcode | 0x231]),
-            [hidden, hidden, open, open]
-        );
-        assert_eq!(
-            marks_behind(&[opcode | 0x211]),
-            [hidden, hidden, open, open]
-        );
+        for digits in [0x213, 0x231, 0x212, 0x221] {
+            let marks = marks_behind(&[opcode | digits]);
+            assert_eq!(marks, [hidden, hidden, open, open]);
+        }
         assert_eq!(marks_behind(&[opcode | 0x233]), [hidden, open, open, open]);
         assert_eq!(marks_behind(&[opcode | 0x133]), [open, open, open, open]);
     }
-    for keeps in [0x7010, 0x8103, 0x8110, 0x9103, 0x91FF, 0x7210] {
+    for opcode in [0x6000, 0xA000, 0xB000] {
+        let marks = marks_behind(&[opcode | 0x211]);
+        assert_eq!(marks, [hidden, hidden, open, open]);
+    }
+    for keeps in [
+        0x7010, 0x8103, 0x810F, 0x9103, 0x910F, 0x7210, 0x6111, 0xC112,
+    ] {
         assert_eq!(marks_behind(&[keeps]), [hidden, open, open, open]);
     }
     // In NEGATE and in LOAD y, z it is y that counts, and x that does not.
     assert_eq!(marks_behind(&[0x7120]), [hidden, open, open, open]);
     assert_eq!(marks_behind(&[0x2134]), [hidden, open, open, open]);
 }
+
+// -- cleared registers: document 02, Change 2 -------------------------------
+
+/// Only the target loses its mark; MDR is open as behind every fetch.
+#[test]
+fn how_marks_are_cleared() {
+    let (open, hidden) = (false, true);
+    for clears in [0xC111, 0xC122, 0xC100, 0x8110, 0x81FF, 0x9110, 0x91FF] {
+        assert_eq!(marks_behind(&[clears]), [open, open, open, open]);
+    }
+    // R2 alone is opened, whether it was hidden or not, and R1 is hidden as before.
+    for clears in [0xC211, 0xC222, 0x8210, 0x92FF] {
+        assert_eq!(marks_behind(&[clears]), [hidden, open, open, open]);
+        let copied = marks_behind(&[0x2021, clears]);
+        assert_eq!(copied, [hidden, open, open, open]);
+    }
+    // A store of what was cleared opens the word, and one before it does not.
+    let stored = [0x4111, 0xC111];
+    assert_eq!(marks_behind(&stored), [open, open, open, hidden]);
+    let stored_again = [0x4111, 0xC111, 0x4111];
+    assert_eq!(marks_behind(&stored_again), [open, open, open, open]);
+    // Nothing lasts: what is loaded next is hidden again.
+    let loaded_again = [0xC111, 0x3110];
+    assert_eq!(marks_behind(&loaded_again), [hidden, open, hidden, open]);
+}
+
+/// The stop and PC of a program whose word 10 is hidden, whatever the word is.
+fn stopped(code: &[u16]) -> (Stop, u8) {
+    let ends = [0x5EC7, 0x0000, 0x0001, 0x8000, 0xFFFF].map(|word| {
+        let run = run(&input(&with_word_10(code, word), &[0x10], 9));
+        (run.stop, run.machine.pc)
+    });
+    assert!(ends.iter().all(|end| *end == ends[0]), "{code:04X?}");
+    ends[0]
+}
+
+/// The jump is taken, to HALT at 05.
+const TAKEN: (Stop, u8) = (Stop::Halted, 6);
+/// The test of the jump at 02 is hidden.
+const HIDDEN_TEST: (Stop, u8) = (Stop::MarkedTest, 2);
+
+/// LOAD [10], one instruction, and a jump to 05.
+fn jumped(load: u16, word: u16, jump: u16) -> (Stop, u8) {
+    stopped(&[load, word, jump, HALT, 0, HALT])
+}
+
+#[test]
+fn jumps_on_a_cleared_register() {
+    for clears in [
+        0xC111, 0xC122, 0xC100, 0xC1FF, 0x8110, 0x8111, 0x811F, 0x8120, 0x8180, 0x81FF, 0x9110,
+        0x9111, 0x911F, 0x9120, 0x9180, 0x91FF,
+    ] {
+        assert_eq!(jumped(0x3110, clears, 0xD105), TAKEN, "{clears:04X}");
+    }
+    for keeps in [
+        0xC112, 0xC121, 0xC110, 0xC101, 0x8100, 0x8101, 0x810F, 0x9100, 0x9101, 0x910F, 0xA111,
+        0xB111, 0x6111, 0x7010, 0x2011,
+    ] {
+        assert_eq!(jumped(0x3110, keeps, 0xD105), HIDDEN_TEST, "{keeps:04X}");
+    }
+}
+
+/// It is x that is opened, whichever register is taken with itself, and no other.
+#[test]
+fn which_register_is_opened() {
+    for (load, word, jump, due) in [
+        // R2, from R1 that stays hidden, and from R1 that is open.
+        (0x3110, 0xC211, 0xD205, TAKEN),
+        (0x3110, 0xC211, 0xD105, HIDDEN_TEST),
+        (0x3210, 0xC211, 0xD205, TAKEN),
+        // R1, from R2 that stays hidden.
+        (0x3210, 0xC122, 0xD105, TAKEN),
+        (0x3210, 0xC122, 0xD205, HIDDEN_TEST),
+        // x is y, or x is z, and y is not z.
+        (0x3210, 0xC112, 0xD105, HIDDEN_TEST),
+        (0x3210, 0xC121, 0xD105, HIDDEN_TEST),
+        (0x3210, 0xC221, 0xD205, HIDDEN_TEST),
+        (0x3210, 0xC212, 0xD205, HIDDEN_TEST),
+        // R0, with which every jump compares.
+        (0x3010, 0xC011, 0xD105, TAKEN),
+        (0x3010, 0xC000, 0xD105, TAKEN),
+        (0x3010, 0xC001, 0xD105, HIDDEN_TEST),
+        (0x3010, 0xC100, 0xD105, HIDDEN_TEST),
+        (0x3110, 0xC011, 0xD105, HIDDEN_TEST),
+        (0x3010, 0x8010, 0xD105, TAKEN),
+        (0x3010, 0x90FF, 0xD105, TAKEN),
+        (0x3010, 0x800F, 0xD105, HIDDEN_TEST),
+        (0x3010, 0x8110, 0xD105, HIDDEN_TEST),
+        (0x3010, 0x9110, 0xD105, HIDDEN_TEST),
+        (0x3110, 0x8010, 0xD105, HIDDEN_TEST),
+        (0x3110, 0x8210, 0xD105, HIDDEN_TEST),
+        (0x3210, 0x9210, 0xD205, TAKEN),
+    ] {
+        let found = jumped(load, word, jump);
+        assert_eq!(found, due, "{load:04X} {word:04X} {jump:04X}");
+    }
+}
+
+/// R2 is 20, and R0 is 0: it is the byte that counts, and not what the register
+/// of its last digit holds.
+#[test]
+fn the_byte_of_a_shift_counts() {
+    let end = |shift: u16| stopped(&[0x1220, 0x3110, shift, 0xD106, HALT, 0, HALT]);
+    for shift in [0x8102, 0x9102, 0x8100] {
+        assert_eq!(end(shift), (Stop::MarkedTest, 3), "{shift:04X}");
+    }
+    for shift in [0x8110, 0x9112, 0x8120] {
+        assert_eq!(end(shift), (Stop::Halted, 7), "{shift:04X}");
+    }
+}
+
+/// Reports of such a run, and of one that is hidden as before.
+#[test]
+fn reports_of_cleared_registers() {
+    let report_of = |word: u16| {
+        let code = [0x3110, word, 0xD105, HALT, 0, HALT];
+        report(&input(&with_word_10(&code, 0x5EC7), &[0x10], 9))
+    };
+    let cleared = report_of(0xC111);
+    assert_eq!(of_kind(&cleared, 5)[1], [5, 1, 0, 0, 0]);
+    assert_eq!(of_kind(&cleared, 6)[0x10], [6, 0x10, 1, 0, 0]);
+    let jump = of_kind(&cleared, 4)[16];
+    assert_eq!(jump[11..], text("if R1 = R0: 05 -> PC"));
+    assert_eq!(end(&cleared), [0, 6, 0xE0, 0, 5, 0, 0xE0, 0]);
+    assert_eq!(counts(&cleared), [4, 21, 5, 0]);
+    let kept = report_of(0xC112);
+    assert_eq!(of_kind(&kept, 5)[1], [5, 1, 1, 0, 0]);
+    assert_eq!(end(&kept), [5, 2, 0xC1, 0x12, 1, 0, 0xC1, 0x12]);
+    assert_eq!(counts(&kept), [2, 12, 3, 0]);
+    // Cleared twice, with a jump behind each; then it is stored.
+    let twice = report(&pairs::value(8, 0x5EC7));
+    assert_eq!(of_kind(&twice, 6)[0x11], [6, 0x11, 0, 0, 0]);
+    assert_eq!(end(&twice), [0, 9, 0xE0, 0, 8, 0, 0xE0, 0]);
+    assert_eq!(counts(&twice), [7, 38, 8, 1]);
+}
+
+// -- MDR, and code that is written over -------------------------------------
 
 /// Each fetch opens MDR, so its mark shows only where a run ends right behind
 /// LOAD [yz] or STORE.
@@ -598,8 +737,9 @@ fn pairs_differ_in_one_thing() {
             "{number}"
         );
     }
-    for number in 0..pairs::HIDDEN_CASES {
-        let case = pairs::hidden(number);
+    let hidden = (0..pairs::HIDDEN_CASES).map(pairs::hidden);
+    let cleared = (0..cleared::PAIR_CASES).map(cleared::pairs);
+    for case in hidden.chain(cleared) {
         for other in &case[1..] {
             assert_ne!(*other, case[0]);
             let zipped = case[0].image.iter().zip(&other.image).enumerate();
@@ -615,10 +755,11 @@ fn pairs_differ_in_one_thing() {
 }
 
 /// Every value of one hidden word, in programs that stop at a jump, with the
-/// word in MDR, and at a copy of it; the family `values` has one that halts.
+/// word in MDR, and at a copy of it, and in one that clears it and goes on; the
+/// family `values` has one that moves it and halts.
 #[test]
 fn all_values_of_a_hidden_word() {
-    for program in [1, 5, 7] {
+    for program in [1, 5, 7, 8] {
         let first = report(&pairs::value(program, 0));
         for word in 1..=u16::MAX {
             let other = report(&pairs::value(program, word));

@@ -150,19 +150,26 @@ fn direct_scripts_have_states_of_every_kind() {
     assert!(halted > 100);
 }
 
+/// What a case of the guarded runs comes to, and behind which body.
+fn met_of(number: usize) -> (usize, usize) {
+    let (rest, bodies) = (number / BOUNDS, inputs::stretches::BODIES.len());
+    (rest / bodies, rest % bodies)
+}
+
 /// All six stops are there at every bound.
 #[test]
 fn guarded_runs_stop_at_their_bounds() {
     let mut stops = HashSet::new();
     for number_of in 0..inputs::stretches::END_CASES {
+        let begun = bound_of(number_of).0 as u64;
+        let (met, body) = met_of(number_of);
         // The test of the jump on RD is hidden in some of the bodies alone.
-        let hangs_on_the_body = number_of / BOUNDS / 3 == OUTS + 4;
-        // Each bound with one body of three.
-        if hangs_on_the_body || number_of / BOUNDS % 3 != number_of % 3 {
+        let hangs_on_the_body = met == OUTS + 4;
+        // Each bound with one body of four.
+        if hangs_on_the_body || body as u64 != begun % 4 {
             continue;
         }
         let inputs = inputs::stretches::ends(number_of);
-        let begun = bound_of(number_of).0 as u64;
         let run = guarded::run(&inputs[1]).expect("it is served");
         assert_eq!(run.executed, begun, "{number_of}");
         stops.insert((begun, run.stop as u8));
@@ -171,4 +178,22 @@ fn guarded_runs_stop_at_their_bounds() {
         stops.insert((begun, spent.stop as u8));
     }
     assert_eq!(stops.len(), 6 * BOUNDS);
+}
+
+/// Behind every loop: HALT behind a jump on a cleared register, and behind one on
+/// R2 with R0 cleared; a hidden test where a shift was one short; and a word that
+/// is none, where a cleared register was stored over a hidden HALT.
+#[test]
+fn cleared_registers_at_the_bounds() {
+    let stops = [Stop::Halted, Stop::Halted, Stop::MarkedTest, Stop::Fault];
+    let bodies = inputs::stretches::BODIES.len();
+    let first = inputs::stretches::CLEARED * bodies * BOUNDS;
+    assert_eq!(inputs::stretches::END_CASES, first + 4 * bodies * BOUNDS);
+    for number_of in (first..inputs::stretches::END_CASES).step_by(7) {
+        let (met, _) = met_of(number_of);
+        let run = guarded::run(&inputs::stretches::ends(number_of)[0]).expect("it is served");
+        let due = stops[met - inputs::stretches::CLEARED];
+        let begun = bound_of(number_of).0 as u64;
+        assert_eq!((run.stop, run.executed), (due, begun), "{number_of}");
+    }
 }

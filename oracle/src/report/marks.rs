@@ -1,8 +1,8 @@
 //! Which words are hidden, and how an instruction moves that on: document 01,
-//! section 5, sentence by sentence.
+//! section 5, sentence by sentence, as document 02, Change 2, has changed it.
 
 use crate::isa::{Instruction, Opcode};
-use crate::sizes::{MEMORY_WORDS, REGISTERS};
+use crate::sizes::{MEMORY_WORDS, REGISTERS, WORD_BITS};
 
 /// True is marked, false is open.
 #[derive(Clone, Debug, PartialEq, Eq)]
@@ -37,16 +37,21 @@ impl Marks {
 
     fn execute(&mut self, instruction: Instruction) {
         let (x, y, z) = instruction.xyz();
+        let yz = instruction.yz();
         match instruction.opcode() {
             Some(Opcode::LoadImmediate) => self.set(x, false),
             Some(Opcode::LoadRegister) => self.set(y, self.of(z)),
-            Some(Opcode::LoadMemory) => self.load(x, instruction.yz()),
-            Some(Opcode::StoreMemory) => self.store(x, instruction.yz()),
+            Some(Opcode::LoadMemory) => self.load(x, yz),
+            Some(Opcode::StoreMemory) => self.store(x, yz),
+            // Change 2: these leave 0 for every input, which tells nothing. It is
+            // the digits that count, and never what a register holds.
+            Some(Opcode::Xor) if y == z => self.set(x, false),
+            Some(Opcode::ShiftRight | Opcode::ShiftLeft) if yz >= WORD_BITS => self.set(x, false),
             Some(Opcode::Add | Opcode::And | Opcode::Or | Opcode::Xor) => {
                 self.set(x, self.of(y) || self.of(z))
             }
-            // These keep the mark of what they change, or change nothing that
-            // has one.
+            // These, lesser shifts among them, keep the mark of what they change,
+            // or change nothing that has one.
             Some(Opcode::Negate | Opcode::ShiftRight | Opcode::ShiftLeft) => {}
             Some(Opcode::Jump | Opcode::Halt) | None => {}
         }

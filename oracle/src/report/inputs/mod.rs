@@ -2,6 +2,7 @@
 //! or several that belong together; it is made from its number, so that any
 //! one can be made alone.
 
+pub mod cleared;
 pub mod examples;
 pub mod opcodes;
 pub mod pairs;
@@ -37,7 +38,7 @@ pub enum Relation {
     Different,
 }
 
-pub const FAMILIES: [Family; 20] = [
+pub const FAMILIES: [Family; 22] = [
     free(
         "sample",
         || sample::inputs().len(),
@@ -62,6 +63,11 @@ pub const FAMILIES: [Family; 20] = [
         "behind_a_load",
         || 1,
         |_| all_bytes(&opcodes::behind_a_load()),
+    ),
+    free(
+        "cleared",
+        || cleared::words().len(),
+        |number| all_bytes(&cleared::one(number)),
     ),
     free("each_mark", || 1, |_| all_bytes(&opcodes::each_mark())),
     free("stops", || 1, |_| all_bytes(&stops::stops())),
@@ -96,6 +102,12 @@ pub const FAMILIES: [Family; 20] = [
         name: "hidden",
         count: || pairs::HIDDEN_CASES,
         inputs: |number| all_bytes(&pairs::hidden(number)),
+        relation: Relation::Same,
+    },
+    Family {
+        name: "cleared_pairs",
+        count: || cleared::PAIR_CASES,
+        inputs: |number| all_bytes(&cleared::pairs(number)),
         relation: Relation::Same,
     },
     Family {

@@ -9,13 +9,14 @@ use crate::sizes::CODE_WORDS;
 /// All that begin on open words and do not end the run at once.
 const OPCODES: [u16; 12] = [1, 2, 3, 4, 6, 7, 8, 9, 0xA, 0xB, 0xC, 0xD];
 /// R0 to R3 are in use, each loaded from a word of its own.
-const REGISTERS: u16 = 4;
+pub const REGISTERS: u16 = 4;
 /// Where those words are; R0 and R1 are equal.
 const DATA: usize = 0x20;
-const VALUES: [u16; 4] = [0x1234, 0x1234, 0xFFF1, 0x8001];
+const VALUES: Values = [0x1234, 0x1234, 0xFFF1, 0x8001];
+type Values = [u16; REGISTERS as usize];
 /// Digits x, y and z: each pair of x and y, with two of z.
 const DIGITS: usize = 32;
-const MARKS: usize = 16;
+pub const MARKS: usize = 16;
 
 pub const OPCODE_CASES: usize = OPCODES.len() * DIGITS * MARKS;
 
@@ -41,7 +42,7 @@ fn digits(number: usize) -> u16 {
 }
 
 /// The data that a number's four bits name.
-fn marked(bits: usize) -> Vec<u8> {
+pub fn marked(bits: usize) -> Vec<u8> {
     let marked = |index: &usize| bits >> index & 1 == 1;
     (0..4)
         .filter(marked)
@@ -51,10 +52,15 @@ fn marked(bits: usize) -> Vec<u8> {
 
 /// Four loads, the word, and HALT.
 fn image(word: u16) -> Vec<u16> {
+    behind_loads(&[word, HALT], VALUES)
+}
+
+/// Loads of these values into the four registers, and code behind them.
+pub fn behind_loads(code: &[u16], values: Values) -> Vec<u16> {
     let loads = (0..REGISTERS).map(|register| 0x3000 | register << 8 | (DATA as u16 + register));
-    let mut image: Vec<u16> = loads.chain([word, HALT]).collect();
+    let mut image: Vec<u16> = loads.chain(code.iter().copied()).collect();
     image.resize(DATA, 0);
-    image.extend(VALUES);
+    image.extend(values);
     image
 }
 

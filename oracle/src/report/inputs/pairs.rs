@@ -82,16 +82,19 @@ fn another(random: &mut Random, word: u16) -> u16 {
 // -- every value of one hidden word -----------------------------------------
 
 /// Programs whose word 10 is hidden.
-pub const VALUE_PROGRAMS: usize = 8;
+pub const VALUE_PROGRAMS: usize = 9;
 
 /// A program with this hidden word.
 pub fn value(program: usize, word: u16) -> Input {
     let reckoning = [
-        0x3110, 0x6211, 0x8203, 0x7020, 0xA312, 0xB412, 0xC511, 0x9110, 0x4211, 0x2061, 0x4313,
-        0x1105, HALT,
+        0x3110, 0x6211, 0x8203, 0x7020, 0xA312, 0xB412, 0xC512, 0x910F, 0x4211, 0x2061, 0x4313,
+        0xC711, 0x4714, 0x1105, HALT,
+    ];
+    let clearing = [
+        0x3110, 0xC211, 0xD204, HALT, 0x9110, 0xD107, HALT, 0x4111, HALT,
     ];
     let (code, budget): (&[u16], u64) = match program {
-        // Through registers and words, to HALT.
+        // Through registers and words to HALT; R7 and word 14 are cleared.
         0 => (&reckoning, 40),
         // A jump that would tell, of Rx and of R0.
         1 => (&[0x3110, 0xD105, HALT], 9),
@@ -103,7 +106,9 @@ pub fn value(program: usize, word: u16) -> Input {
         5 => (&[0x3110, 0x4111], 2),
         // The word itself, and a copy of it, is to be carried out.
         6 => (&[0xD010], 9),
-        _ => (&[0x3110, 0x4103, 0x1200], 9),
+        7 => (&[0x3110, 0x4103, 0x1200], 9),
+        // Cleared by XOR into another register and by a shift, with a jump on each.
+        _ => (&clearing, 9),
     };
     input(&with_word_10(code, word), &[0x10], budget)
 }

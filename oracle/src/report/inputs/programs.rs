@@ -6,10 +6,10 @@ use crate::programs::{self, HALT, JUMP};
 use crate::random::Random;
 use crate::report::guarded::Input;
 use crate::report::inputs::examples::marks_at;
-use crate::sizes::{LARGEST_BUDGET, MEMORY_WORDS};
+use crate::sizes::{LARGEST_BUDGET, MEMORY_WORDS, WORD_BITS};
 
 /// How many words the data of a program has.
-const ZONE: usize = 8;
+pub const ZONE: usize = 8;
 
 /// A program of any of these kinds with its marks, without breakpoints and
 /// with the largest budget.
@@ -46,7 +46,7 @@ fn with_data(random: &mut Random, code: Code) -> (Vec<u16>, Vec<u8>) {
     (image, marks(random, zone))
 }
 
-fn value(random: &mut Random) -> u16 {
+pub fn value(random: &mut Random) -> u16 {
     match random.below(3) {
         0 => random.pick(&EDGES),
         // A word that is an instruction, should PC come to it.
@@ -73,7 +73,7 @@ fn marks(random: &mut Random, zone: usize) -> Vec<u8> {
 }
 
 /// One in so many of the data, by chance.
-fn zone_marks(random: &mut Random, zone: usize, one_in: usize) -> Vec<u8> {
+pub fn zone_marks(random: &mut Random, zone: usize, one_in: usize) -> Vec<u8> {
     let mut marks = marks_at(&[]);
     for mark in &mut marks[zone..zone + ZONE] {
         *mark = u8::from(random.below(one_in) == 0);
@@ -119,6 +119,29 @@ fn instruction(random: &mut Random, zone: usize) -> u16 {
     opcode << 12 | register(random) << 8 | low
 }
 
+/// An instruction that clears this register: XOR of one with itself, or a shift
+/// that leaves nothing.
+pub fn clearing(random: &mut Random, target: u16) -> u16 {
+    let opcode = random.pick(&[8, 9, 0xC, 0xC]);
+    let other = register(random);
+    let low = match opcode {
+        0xC => random.pick(&[target, other]) * 0x11,
+        _ => random.pick(&[0x10, 0x11, 0x20, 0x80, 0xF0, 0xFF]),
+    };
+    opcode << 12 | target << 8 | low
+}
+
+/// One that looks like these, and leaves this register hidden where it was.
+pub fn keeping(random: &mut Random, target: u16) -> u16 {
+    let opcode = random.pick(&[6, 8, 9, 0xA, 0xB, 0xC]);
+    let low = match opcode {
+        8 | 9 => random.below(WORD_BITS.into()) as u16,
+        0xC => target << 4 | (target + 1 + random.below(15) as u16) % 16,
+        _ => target * 0x11,
+    };
+    opcode << 12 | target << 8 | low
+}
+
 fn register(random: &mut Random) -> u16 {
     match random.below(12) {
         0 => random.below(16) as u16,
@@ -127,21 +150,21 @@ fn register(random: &mut Random) -> u16 {
     }
 }
 
-fn address(random: &mut Random, zone: usize) -> u16 {
+pub fn address(random: &mut Random, zone: usize) -> u16 {
     match random.below(16) {
         0 => random.word() & 0xFF,
         _ => (zone + random.below(ZONE)) as u16,
     }
 }
 
-fn body(random: &mut Random, most: usize, zone: usize) -> Vec<u16> {
+pub fn body(random: &mut Random, most: usize, zone: usize) -> Vec<u16> {
     (0..1 + random.below(most))
         .map(|_| instruction(random, zone))
         .collect()
 }
 
 /// HALT, an unknown word, or the zeros behind the code.
-fn end(random: &mut Random) -> Option<u16> {
+pub fn end(random: &mut Random) -> Option<u16> {
     match random.below(8) {
         0 => Some(random.pick(&[0x5000, 0xF000, 0x0000]) | random.word() & 0xFFF),
         1 => None,
@@ -169,17 +192,24 @@ fn jumping(random: &mut Random, zone: usize) -> Vec<u16> {
 }
 
 /// Loads two registers, R0 perhaps among them, and jumps forward on one of
-/// them, now and then behind a few instructions more.
+/// them, now and then behind a few instructions more; in one of three, the first
+/// is cleared for that.
 fn testing(random: &mut Random, zone: usize) -> Vec<u16> {
-    let mut code: Vec<u16> = [register(random), random.below(4) as u16]
+    let loaded = [register(random), random.below(4) as u16];
+    let mut code: Vec<u16> = loaded
         .iter()
         .map(|register| 0x3000 | register << 8 | address(random, zone))
         .collect();
     if random.below(2) == 0 {
         code.extend(body(random, 3, zone));
     }
+    let mut asked = register(random);
+    if random.below(3) == 0 {
+        asked = loaded[0];
+        code.push(clearing(random, asked));
+    }
     let over = code.len() + 2 + random.below(3);
-    code.push(JUMP | register(random) << 8 | over as u16);
+    code.push(JUMP | asked << 8 | over as u16);
     code.extend(body(random, 6, zone));
     code.extend(end(random));
     code

@@ -20,7 +20,12 @@ pub fn any(number: usize) -> Input {
 
 /// An input that is served.
 pub fn by(random: &mut Random) -> Input {
-    let mut input = programs::any(random);
+    let program = programs::any(random);
+    bounded(random, program)
+}
+
+/// A program with breakpoints and a budget, often where it comes by and ends.
+pub fn bounded(random: &mut Random, mut input: Input) -> Input {
     let tried = with_budget(&input, TRIED);
     input.breakpoints = breakpoints(random, &tried);
     let tried = with_budget(&input, TRIED);

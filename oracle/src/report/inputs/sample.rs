@@ -7,7 +7,7 @@ use crate::programs::HALT;
 use crate::record::Record;
 use crate::report::guarded::Input;
 use crate::report::inputs::examples::{self, input};
-use crate::report::inputs::{opcodes, pairs, random, refused};
+use crate::report::inputs::{cleared, opcodes, pairs, random, refused};
 use crate::report::program::{answer, bytes};
 
 /// The program's own sample, for its folder. A hidden word of what it says is
@@ -32,14 +32,15 @@ pub fn inputs() -> Vec<Vec<u8>> {
     inputs
 }
 
-/// Each stop, MDR's mark behind a load, hidden values, runs by chance, and words
-/// whose texts may end in them.
+/// Each stop, MDR's mark behind a load, hidden values, runs by chance, words whose
+/// texts may end in them, and registers that are cleared or nearly so.
 fn served() -> Vec<Input> {
     let behind = opcodes::behind_a_load();
     let mut served: Vec<Input> = [24, 26, 28, 50].map(|at| behind[at].clone()).to_vec();
-    served.extend((0..8).map(|program| pairs::value(program, 0x8001)));
+    served.extend((0..pairs::VALUE_PROGRAMS).map(|program| pairs::value(program, 0x8001)));
     served.extend((0..8).map(|number| random::any(11 * number)));
     served.push(partly_used());
+    served.extend(cleared::ROWS.map(cleared::row));
     served
 }
 

@@ -22,7 +22,7 @@ const MOVED: u16 = countdowns::VALUES;
 /// A mark through registers and a word; R9 and the word are open again at the
 /// turn's end, RA to RD are hidden. Two words have digits that they do not use.
 const MOVING: Body = &[
-    0x3988, 0x2EA9, 0x6BA3, 0xCCBB, 0x75CB, 0x8C01, 0x4C89, 0x3D89, 0x1905, 0x4989,
+    0x3988, 0x2EA9, 0x6BA3, 0xCCBA, 0x75CB, 0x8C01, 0x4C89, 0x3D89, 0x1905, 0x4989,
 ];
 
 /// Four words change places, of which one is hidden, and what the first of them
@@ -32,7 +32,13 @@ const ROTATING: Body = &[
     0x2098, 0x2083,
 ];
 
-const BODIES: [Body; 3] = [MOVING, ROTATING, countdowns::SWEEPING];
+/// R9 is hidden, and so is a word. RA is R9 cleared, which opens the word, and
+/// then R9 is cleared; jumps on both go to the next word either way.
+const CLEARING: Body = &[
+    0x3988, 0x498A, 0xCA99, 0xDA24, 0x4A8A, 0x3D8A, 0x9910, 0xD928,
+];
+
+pub const BODIES: [Body; 4] = [MOVING, ROTATING, countdowns::SWEEPING, CLEARING];
 
 // -- chosen ends ------------------------------------------------------------
 
@@ -42,23 +48,30 @@ struct Met {
     marked: Vec<u8>,
 }
 
-/// Those of the plain runs, and ten with something hidden.
-const MEETINGS: usize = OUTS + 10;
+/// Those of the plain runs, ten with something hidden, and four with a register
+/// that is cleared or nearly so.
+pub const CLEARED: usize = OUTS + 10;
+const MEETINGS: usize = CLEARED + 4;
 
 fn met(number: usize, body: &[u16]) -> Met {
-    match number.checked_sub(OUTS) {
-        None => Met {
+    match number {
+        0..OUTS => Met {
             out: countdowns::out(number, body),
             marked: Vec::new(),
         },
-        Some(number) => hidden(number, body),
+        OUTS..CLEARED => hidden(number - OUTS, body),
+        _ => cleared(number - CLEARED),
     }
+}
+
+/// LOAD [yz] of the hidden word that the bodies leave alone.
+fn load(register: u16) -> u16 {
+    0x3000 | register << 8 | HIDDEN
 }
 
 /// Hidden words that are come to, hidden tests of jumps, and marks that a store
 /// sets or takes away right before.
 fn hidden(number: usize, body: &[u16]) -> Met {
-    let load = |register: u16| 0x3000 | register << 8 | HIDDEN;
     let (over, turn) = (OUT + 2, body.len());
     let (words, more, marked) = match number {
         0 => (vec![0xEABC], 0, vec![OUT]),
@@ -66,7 +79,7 @@ fn hidden(number: usize, body: &[u16]) -> Met {
         1 => (vec![load(9), 0xD900 | (OUT + 3), HALT, HALT], 1, vec![]),
         2 => (vec![load(0), 0xD300 | (OUT + 3), HALT, HALT], 1, vec![]),
         3 => (vec![load(0), JUMP | (OUT + 3), 0, HALT], 3, vec![]),
-        // Most of the bodies have hidden RD.
+        // Some of the bodies have hidden RD.
         4 => (vec![0xDD00 | (OUT + 2), IDLE, HALT], 0, vec![]),
         5 => (vec![load(9), 0x4900 | over, HALT], 2, vec![]),
         6 => (
@@ -79,6 +92,23 @@ fn hidden(number: usize, body: &[u16]) -> Met {
         8 => (vec![load(9), 0x6119, JUMP | LOOP], turn + 4, vec![]),
         _ => (vec![load(9), 0x4900 | LOOP, JUMP | LOOP], 3, vec![]),
     };
+    coming_to(words, more, marked)
+}
+
+/// Jumps on R9 that was cleared, on R2 where R0 was, and on R9 that was not; then
+/// a cleared register over a hidden word, which is no instruction from then on.
+fn cleared(number: usize) -> Met {
+    let (jump, over) = (0xD900 | (OUT + 4), OUT + 3);
+    match number {
+        0 => coming_to(vec![load(9), 0xC999, jump, 0, HALT], 4, vec![]),
+        1 => coming_to(vec![load(0), 0x90FF, 0xD200, HALT], 4, vec![]),
+        2 => coming_to(vec![load(9), 0x890F, jump, HALT, HALT], 2, vec![]),
+        _ => coming_to(vec![load(9), 0xC999, 0x4900 | over, HALT], 4, vec![over]),
+    }
+}
+
+/// Words without a breakpoint, and the addresses that are marked.
+fn coming_to(words: Vec<u16>, more: usize, marked: Vec<u16>) -> Met {
     Met {
         out: Out {
             words,
@@ -128,7 +158,7 @@ pub fn any(number: usize) -> Vec<Input> {
     let mut random = Random::new(0x57E7_C400_0000 + number as u64);
     let random = &mut random;
     let begun = bound(random.below(BOUNDS));
-    let body = programs::turn(random, 8, MOVED.into());
+    let body = turn(random);
     let met = met(random.below(MEETINGS), &body);
     let mut input = meeting(begun, &body, &met);
     for mark in &mut input.marks[MOVED.into()..HIDDEN.into()] {
@@ -147,4 +177,17 @@ pub fn any(number: usize) -> Vec<Input> {
     };
     let other = pairs::with_other_hidden(random, &input);
     vec![input, other]
+}
+
+/// A turn by chance. In every second one a hidden word is then loaded and
+/// cleared, and a jump on it goes to the next word either way.
+fn turn(random: &mut Random) -> Vec<u16> {
+    let mut body = programs::turn(random, 8, MOVED.into());
+    if random.below(2) == 0 {
+        let register = 4 + random.below(4) as u16;
+        body.extend([load(register), programs::clearing(random, register)]);
+        let next = LOOP + body.len() as u16 + 1;
+        body.push(JUMP | register << 8 | next);
+    }
+    body
 }
