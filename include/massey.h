@@ -18,8 +18,9 @@
 
 /* The version of these calls. It rises where a call, a record or a number
  * changes. No call answers it, so it speaks for this header alone. Version 2 has
- * the word behind the disassembly of 12,015 words (massey_disassemble). */
-#define MASSEY_VERSION 2
+ * the word behind the disassembly of 12,015 words (massey_disassemble); in
+ * version 3 a register that an instruction clears is open (massey_mark). */
+#define MASSEY_VERSION 3
 
 /* The stack that is enough for any of the calls. Measured, massey_report takes
  * 48,176 bytes and massey_listing 4,488. */
@@ -67,7 +68,9 @@ enum massey_refusal {
 };
 
 /* ---- marks: one byte for each address in the input, and one in each record of
- * kind 02, 05, 06 and 08. A marked value is written as zeros. */
+ * kind 02, 05, 06 and 08. A marked value is written as zeros. What comes of a
+ * marked value is marked, but for a register that XOR with y = z or a shift of 16
+ * or more clears: it is 0 for every input, and open. */
 enum massey_mark {
     MASSEY_OPEN = 0,
     MASSEY_MARKED = 1
