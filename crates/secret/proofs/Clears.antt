@@ -12,23 +12,20 @@ use Rattle.isa.specs.declared.opcode.Decoded.{Decoded}
 use Rattle.isa.specs.declared.opcode.Decoded.the-variants.{Known}
 use Rattle.isa.specs.Word.{decodeWord, digitX, digitY, digitZ, byteYZ}
 use Rattle.tick.specs.Tick.{executeTick, right16, left16}
-use Rattle.tick.proofs.Shifts.{right-out, left-out}
+use Rattle.tick.proofs.Shifts.{shift-out}
 use Rattle.marks.specs.Marks.{Marks, registerMark, sameSources, shiftsOut, executedMarks, instructionMarks}
 use Rattle.vm.specs.Machine.{Machine}
 use Rattle.vm.specs.Instruction.{stepInstruction}
 use Rattle.vm.specs.Guard.{nextWord}
 use Rattle.vm.proofs.Steps.{Public, publicOf, Hidden, hiddenOf, fetched, fetchedHidden, decoded, finished, instruction-ticks}
 
--- ---- the results: the word, the registers
+-- ---- the results: the word, the registers or the value shifted
 
 pub xor-cleared : (w : ℕ) (r : List ℕ) → sameSources w ≡ true → bitXor (getD r (digitY w) 0) (getD r (digitZ w) 0) ≡ 0
 xor-cleared w r e = rw (eqb-true (digitY w) (digitZ w) e) (xor-self (getD r (digitZ w) 0))
 
-pub right-cleared : (w : ℕ) (r : List ℕ) → shiftsOut w ≡ true → right16 (byteYZ w) (getD r (digitX w) 0) ≡ 0
-right-cleared w r e = right-out (byteYZ w) _ (leb-true 16 (byteYZ w) e)
-
-pub left-cleared : (w : ℕ) (r : List ℕ) → shiftsOut w ≡ true → left16 (byteYZ w) (getD r (digitX w) 0) ≡ 0
-left-cleared w r e = left-out (byteYZ w) _ (leb-true 16 (byteYZ w) e)
+pub shift-cleared : (w v : ℕ) → shiftsOut w ≡ true → (right16 (byteYZ w) v ≡ 0) × (left16 (byteYZ w) v ≡ 0)
+shift-cleared w v e = shift-out (byteYZ w) v (leb-true 16 (byteYZ w) e)
 
 -- ---- the instructions
 
@@ -46,8 +43,8 @@ set-zero (a ∷ l) (suc i) e = set-zero l i e
 finished-zero : (d : Decoded) (p : Public) (a : Hidden) → Clears (p .ir) d → getD (finished d p a .registers) (digitX (p .ir)) 0 ≡ 0
 unfolding finished decoded executeTick
 finished-zero (Known Xor) p a (xor e) = set-zero (a .registers) (digitX (p .ir)) (xor-cleared (p .ir) (a .registers) e)
-finished-zero (Known ShiftRight) p a (right e) = set-zero (a .registers) (digitX (p .ir)) (right-cleared (p .ir) (a .registers) e)
-finished-zero (Known ShiftLeft) p a (left e) = set-zero (a .registers) (digitX (p .ir)) (left-cleared (p .ir) (a .registers) e)
+finished-zero (Known ShiftRight) p a (right e) = set-zero (a .registers) (digitX (p .ir)) (shift-cleared (p .ir) _ e .0)
+finished-zero (Known ShiftLeft) p a (left e) = set-zero (a .registers) (digitX (p .ir)) (shift-cleared (p .ir) _ e .1)
 
 -- of every machine between two instructions, the next of which clears register x: x holds 0 behind it
 pub cleared-zero : (m : Machine) → m .state .control .tick ≡ 0 → let w = nextWord m in Clears w (decodeWord w) → getD (stepInstruction m .machine .registers) (digitX w) 0 ≡ 0

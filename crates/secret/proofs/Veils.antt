@@ -23,7 +23,7 @@ use Rattle.vm.specs.Guard.{Guarded, nextWord, guardedStep}
 use Rattle.guard.specs.Stops.{isJump, hiddenJump}
 use Rattle.secret.proofs.Levels.{Twin, Twins, Level, Joins}
 use Rattle.secret.proofs.Twins.{twin-refl, twin-map, twins-get, twins-set, twin-join, twin-cleared}
-use Rattle.secret.proofs.Clears.{right-cleared, left-cleared, xor-cleared}
+use Rattle.secret.proofs.Clears.{xor-cleared, shift-cleared}
 use Rattle.vm.proofs.Steps.{Public, publicOf, Hidden, hiddenOf, whole, fetched, fetchedHidden, decoded, finished, instruction-ticks}
 
 or-false : (a b : Bool) → (a || b) ≡ false → (a ≡ false) × (b ≡ false)
@@ -91,8 +91,8 @@ module _ (hid : ℕ → Bool) where
     rests (Known StoreMemory) h = record { public = refl; rest = refl; memory = twins-set (g .memory) (reachedAddress (p .ir)) (reg (digitX (p .ir))); registers = g .registers; mdr = reg (digitX (p .ir)) }
     rests (Known Add) h = record { public = refl; rest = refl; memory = g .memory; registers = put (digitX (p .ir)) (twin-join J sum16 (reg (digitY (p .ir))) (reg (digitZ (p .ir)))); mdr = g .mdr }
     rests (Known Negate) h = record { public = refl; rest = refl; memory = g .memory; registers = put (digitY (p .ir)) (twin-map negate16 (reg (digitY (p .ir)))); mdr = g .mdr }
-    rests (Known ShiftRight) h = record { public = refl; rest = refl; memory = g .memory; registers = clear (shiftsOut (p .ir)) (digitX (p .ir)) (right-cleared (p .ir) (a .registers)) (right-cleared (p .ir) (b .registers)) (twin-map (right16 (byteYZ (p .ir))) (reg (digitX (p .ir)))); mdr = g .mdr }
-    rests (Known ShiftLeft) h = record { public = refl; rest = refl; memory = g .memory; registers = clear (shiftsOut (p .ir)) (digitX (p .ir)) (left-cleared (p .ir) (a .registers)) (left-cleared (p .ir) (b .registers)) (twin-map (left16 (byteYZ (p .ir))) (reg (digitX (p .ir)))); mdr = g .mdr }
+    rests (Known ShiftRight) h = record { public = refl; rest = refl; memory = g .memory; registers = clear (shiftsOut (p .ir)) (digitX (p .ir)) (λ e. shift-cleared (p .ir) _ e .0) (λ e. shift-cleared (p .ir) _ e .0) (twin-map (right16 (byteYZ (p .ir))) (reg (digitX (p .ir)))); mdr = g .mdr }
+    rests (Known ShiftLeft) h = record { public = refl; rest = refl; memory = g .memory; registers = clear (shiftsOut (p .ir)) (digitX (p .ir)) (λ e. shift-cleared (p .ir) _ e .1) (λ e. shift-cleared (p .ir) _ e .1) (twin-map (left16 (byteYZ (p .ir))) (reg (digitX (p .ir)))); mdr = g .mdr }
     rests (Known And) h = record { public = refl; rest = refl; memory = g .memory; registers = put (digitX (p .ir)) (twin-join J bitAnd (reg (digitY (p .ir))) (reg (digitZ (p .ir)))); mdr = g .mdr }
     rests (Known Or) h = record { public = refl; rest = refl; memory = g .memory; registers = put (digitX (p .ir)) (twin-join J bitOr (reg (digitY (p .ir))) (reg (digitZ (p .ir)))); mdr = g .mdr }
     rests (Known Xor) h = record { public = refl; rest = refl; memory = g .memory; registers = clear (sameSources (p .ir)) (digitX (p .ir)) (xor-cleared (p .ir) (a .registers)) (xor-cleared (p .ir) (b .registers)) (twin-join J bitXor (reg (digitY (p .ir))) (reg (digitZ (p .ir)))); mdr = g .mdr }
