@@ -1,11 +1,11 @@
 -- The marks of an instruction in one form.
 -- Assumes nothing.
 use Prim.Native.Nat.{ℕ, _<_}
-use mathlib.Core.Path.{_≡_, ap, sym, _∙_}
+use mathlib.Core.Path.{_≡_, refl, ap, sym, _∙_}
 use mathlib.Core.Bool.{Bool, true, false, cond}
 use mathlib.Core.List.{List}
 use lib.ListN.{getD, set}
-use lib.Seq.{set-getD}
+use lib.Seq.{set-getD, set-set}
 use Rattle.isa.specs.declared.opcode.Opcode.the-variants.{LoadImmediate, LoadRegister, LoadMemory, StoreMemory, Add, Negate, ShiftRight, ShiftLeft, And, Or, Xor, Jump, Halt}
 use Rattle.isa.specs.declared.opcode.Decoded.{Decoded}
 use Rattle.isa.specs.declared.opcode.Decoded.the-variants.{Known, Unknown}
@@ -15,48 +15,59 @@ use Rattle.marks.specs.declared.Moved.{Moved}
 use Rattle.marks.specs.Marks.{Marks, mdrMarked, joinedYZ, sameSources, shiftsOut, executedMarks, instructionMarks}
 use Rattle.marks.specs.Forms.{moves}
 
--- a register and the word at yz get a mark, and MDR
-abbrev markedBy : ℕ → Moved → List ℕ → List ℕ → Marks
-markedBy w v m r = record { memory = set m (reachedAddress w) (v .word); registers = set r (cond (v .«to_y») (digitY w) (digitX w)) (v .register); mdr = v .mdr }
+-- a register's mark n set at i, and x open where it is cleared
+abbrev registersBy : ℕ → Bool → ℕ → ℕ → List ℕ → List ℕ
+registersBy w c i n r = cond c (set (set r i n) (digitX w) 0) (set r i n)
+
+-- a register, the word that LOAD or STORE reaches and MDR get a mark: of the first two, where
+abbrev markedBy : ℕ → ℕ → ℕ → Moved → List ℕ → List ℕ → Marks
+markedBy w a i v m r = record { memory = set m a (v .word); registers = registersBy w (v .cleared) i (v .register) r; mdr = v .mdr }
 
 module _ (w : ℕ) (m r : List ℕ) where
   abbrev start : Marks
   start = record { memory = m; registers = r; mdr = 0 }
 
   abbrev moveOf : Decoded → Moved
-  moveOf d = moves d (sameSources w) (shiftsOut w) (getD r (digitX w) 0) (getD r (digitY w) 0) (getD r (digitZ w) 0) (joinedYZ w start) (getD m (reachedAddress w) 0)
+  moveOf d = moves d w (getD r (digitX w) 0) (getD r (digitY w) 0) (getD r (digitZ w) 0) (joinedYZ w start) (getD m (reachedAddress w) 0)
 
   -- the word keeps its mark
-  kept : (i n q : ℕ) → _≡_ {A = Marks} (record { memory = m; registers = set r i n; mdr = q }) (record { memory = set m (reachedAddress w) (getD m (reachedAddress w) 0); registers = set r i n; mdr = q })
-  kept i n q = λ k. record { memory = sym (set-getD m (reachedAddress w) 0) k; registers = set r i n; mdr = q }
+  kept : (q : ℕ) {s t : List ℕ} → s ≡ t → _≡_ {A = Marks} (record { memory = m; registers = s; mdr = q }) (record { memory = set m (reachedAddress w) (getD m (reachedAddress w) 0); registers = t; mdr = q })
+  kept q e = λ k. record { memory = sym (set-getD m (reachedAddress w) 0) k; registers = e k; mdr = q }
 
-  -- nothing moves
-  still : start ≡ record { memory = set m (reachedAddress w) (getD m (reachedAddress w) 0); registers = set r (digitX w) (getD r (digitX w) 0); mdr = 0 }
-  still = λ k. record { memory = sym (set-getD m (reachedAddress w) 0) k; registers = sym (set-getD r (digitX w) 0) k; mdr = 0 }
+  -- no register's mark moves
+  still : r ≡ set r (digitX w) (getD r (digitX w) 0)
+  still = sym (set-getD r (digitX w) 0)
 
-  executed : (d : Decoded) → executedMarks d w start ≡ markedBy w (moveOf d) m r
-  executed (Known LoadImmediate) = kept (digitX w) 0 0
-  executed (Known LoadRegister) = kept (digitY w) (getD r (digitZ w) 0) 0
-  executed (Known LoadMemory) = kept (digitX w) (getD m (reachedAddress w) 0) (getD m (reachedAddress w) 0)
-  executed (Known StoreMemory) = λ k. record { memory = set m (reachedAddress w) (getD r (digitX w) 0); registers = sym (set-getD r (digitX w) 0) k; mdr = getD r (digitX w) 0 }
-  executed (Known Add) = kept (digitX w) (joinedYZ w start) 0
-  executed (Known Negate) = kept (digitY w) (getD r (digitY w) 0) 0
-  executed (Known ShiftRight) = kept (digitX w) (cond (shiftsOut w) 0 (getD r (digitX w) 0)) 0
-  executed (Known ShiftLeft) = kept (digitX w) (cond (shiftsOut w) 0 (getD r (digitX w) 0)) 0
-  executed (Known And) = kept (digitX w) (joinedYZ w start) 0
-  executed (Known Or) = kept (digitX w) (joinedYZ w start) 0
-  executed (Known Xor) = kept (digitX w) (cond (sameSources w) 0 (joinedYZ w start)) 0
-  executed (Known Jump) = still
-  executed (Known Halt) = still
-  executed Unknown = still
+  opened : (c : Bool) (n : ℕ) → set r (digitX w) (cond c 0 n) ≡ registersBy w c (digitX w) n r
+  opened true n = sym (set-set r (digitX w) n 0)
+  opened false n = refl
 
-  -- by what the code finds: the word's address, the marks joined, whether y is z, whether yz shifts out, what moves, the register
-  pub marks-moved : (d : Decoded) {a j t : ℕ} {same out : Bool} {v : Moved} → a ≡ reachedAddress w → j ≡ joinedYZ w start → same ≡ sameSources w → out ≡ shiftsOut w
-      → v ≡ moves d same out (getD r (digitX w) 0) (getD r (digitY w) 0) (getD r (digitZ w) 0) j (getD m a 0) → t ≡ cond (v .«to_y») (digitY w) (digitX w)
-      → record { memory = set m a (v .word); registers = set r t (v .register); mdr = v .mdr } ≡ executedMarks d w start
-  marks-moved d {v = v} p j s o e t =
-      (λ i. record { memory = set m (p i) (v .word); registers = set r (t i) (v .register); mdr = v .mdr })
-      ∙ ap (λ (x : Moved). markedBy w x m r) (e ∙ (λ i. moves d (s i) (o i) (getD r (digitX w) 0) (getD r (digitY w) 0) (getD r (digitZ w) 0) (j i) (getD m (p i) 0)))
+  executed : (d : Decoded) → executedMarks d w start ≡ markedBy w (reachedAddress w) (cond (moveOf d .«to_y») (digitY w) (digitX w)) (moveOf d) m r
+  executed (Known LoadImmediate) = kept 0 refl
+  executed (Known LoadRegister) = kept 0 refl
+  executed (Known LoadMemory) = kept (getD m (reachedAddress w) 0) refl
+  executed (Known StoreMemory) = λ k. record { memory = set m (reachedAddress w) (getD r (digitX w) 0); registers = still k; mdr = getD r (digitX w) 0 }
+  executed (Known Add) = kept 0 refl
+  executed (Known Negate) = kept 0 refl
+  executed (Known ShiftRight) = kept 0 (opened (shiftsOut w) (getD r (digitX w) 0))
+  executed (Known ShiftLeft) = kept 0 (opened (shiftsOut w) (getD r (digitX w) 0))
+  executed (Known And) = kept 0 refl
+  executed (Known Or) = kept 0 refl
+  executed (Known Xor) = kept 0 (opened (sameSources w) (joinedYZ w start))
+  executed (Known Jump) = kept 0 still
+  executed (Known Halt) = kept 0 still
+  executed Unknown = kept 0 still
+
+  -- by what the code finds: the word's address, the marks joined, what moves, the register, the registers' marks at the end
+  pub marks-moved : (d : Decoded) {a j i : ℕ} {v : Moved} {s : List ℕ} → a ≡ reachedAddress w → j ≡ joinedYZ w start
+      → v ≡ moves d w (getD r (digitX w) 0) (getD r (digitY w) 0) (getD r (digitZ w) 0) j (getD m a 0) → i ≡ cond (v .«to_y») (digitY w) (digitX w)
+      → s ≡ registersBy w (v .cleared) i (v .register) r
+      → record { memory = set m a (v .word); registers = s; mdr = v .mdr } ≡ executedMarks d w start
+  marks-moved d {a} {v = v} p j e t f =
+      (λ k. record { memory = set m a (v .word); registers = f k; mdr = v .mdr })
+      ∙ (λ k. markedBy w (p k) (t k) v m r)
+      ∙ ap (λ (x : Moved). markedBy w (reachedAddress w) (cond (x .«to_y») (digitY w) (digitX w)) x m r)
+      (e ∙ (λ k. moves d w (getD r (digitX w) 0) (getD r (digitY w) 0) (getD r (digitZ w) 0) (j k) (getD m (p k) 0)))
       ∙ sym (executed d)
 
 -- whatever MDR's mark was: a fetch opens it

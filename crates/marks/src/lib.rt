@@ -1,8 +1,10 @@
 // Marks: which words and registers are hidden, and how an instruction moves that. A mark of 0 is open.
 ghost use mathlib.Core.Path.{_≡_};
 ghost use mathlib.Core.Bool.{cond};
+ghost use lib.ListN.{set};
 ghost use Rattle.marks.specs.Marks.{marked, marksOf, shown, joined, sameSources, shiftsOut, executedMarks, instructionMarks};
-ghost use Rattle.marks.specs.Forms.{oneMark, allMarks, moves};
+ghost use Rattle.isa.specs.Word.{digitX};
+ghost use Rattle.marks.specs.Forms.{oneMark, clearing, allMarks, moves};
 use control::reached_address;
 use isa::Decoded;
 use isa::Instruction;
@@ -18,12 +20,14 @@ pub struct Marks {
 }
 
 // The marks that an instruction leaves: of register y or x, of the word that LOAD or STORE would reach, of MDR.
-// Where it moves none, a mark is its own again: so every instruction is made alike.
+// Where it moves none, a mark is its own again: so every instruction is made alike. Where it clears register x, that is
+// then opened.
 pub struct Moved {
     pub to_y: bool,
     pub register: u8,
     pub word: u8,
     pub mdr: u8,
+    pub cleared: bool,
 }
 
 // Whether a value with this mark is hidden: what hides is asked here and nowhere else.
@@ -47,6 +51,45 @@ fn join(a: u8, b: u8) -> u8
     if a < b { b } else { a }
 }
 
+// Where a register alone gets a mark: the word keeps its own, and the fetch has opened MDR.
+fn one_mark(to_y: bool, register: u8, word: u8) -> Moved
+    ensures { λ r. ⌜ r ≡ oneMark «to_y» register word ⌝ }
+{
+    Moved {
+        to_y,
+        register,
+        word,
+        mdr: 0,
+        cleared: false,
+    }
+}
+
+// The same of an instruction that may clear register x.
+fn clearing_mark(cleared: bool, register: u8, word: u8) -> Moved
+    ensures { λ r. ⌜ r ≡ clearing cleared register word ⌝ }
+{
+    Moved {
+        to_y: false,
+        register,
+        word,
+        mdr: 0,
+        cleared,
+    }
+}
+
+// Where register x, the word and MDR have the same mark then: LOAD [yz] and STORE.
+fn all_marks(mark: u8) -> Moved
+    ensures { λ r. ⌜ r ≡ allMarks mark ⌝ }
+{
+    Moved {
+        to_y: false,
+        register: mark,
+        word: mark,
+        mdr: mark,
+        cleared: false,
+    }
+}
+
 // Whether XOR has one register for both sources, so that it gives 0 whatever that holds.
 fn has_same_sources(word: u16) -> bool
     ensures { λ r. ⌜ r ≡ sameSources word ⌝ }
@@ -61,67 +104,27 @@ fn shifts_out(word: u16) -> bool
     WORD_BITS <= (word % 256) as u32
 }
 
-// The mark of a result, which is open where it is 0 for every input.
-fn open_if(cleared: bool, mark: u8) -> u8
-    ensures { λ r. ⌜ r ≡ cond cleared 0 mark ⌝ }
-{
-    if cleared { 0 } else { mark }
-}
-
-// Where a register alone gets a mark: the word keeps its own, and the fetch has opened MDR.
-fn one_mark(to_y: bool, register: u8, word: u8) -> Moved
-    ensures { λ r. ⌜ r ≡ oneMark «to_y» register word ⌝ }
-{
-    Moved {
-        to_y,
-        register,
-        word,
-        mdr: 0,
-    }
-}
-
-// Where register x, the word and MDR have the same mark then: LOAD [yz] and STORE.
-fn all_marks(mark: u8) -> Moved
-    ensures { λ r. ⌜ r ≡ allMarks mark ⌝ }
-{
-    Moved {
-        to_y: false,
-        register: mark,
-        word: mark,
-        mdr: mark,
-    }
-}
-
-// From whether y is z, whether yz shifts out, and the marks of x, y, z, of y and z joined, and of the word.
-fn moves_of(
-    decoded: Decoded,
-    same: bool,
-    out: bool,
-    x: u8,
-    y: u8,
-    z: u8,
-    both: u8,
-    word: u8,
-) -> Moved
-    ensures { λ r. ⌜ r ≡ moves decoded same out x y z both word ⌝ }
+// From the instruction, and the marks of x, y, z, of y and z joined, and of the word that LOAD or STORE reaches.
+fn moves_of(decoded: Decoded, word: u16, x: u8, y: u8, z: u8, both: u8, cell: u8) -> Moved
+    ensures { λ r. ⌜ r ≡ moves decoded word x y z both cell ⌝ }
 {
     let Decoded::Known(opcode) = decoded else {
-        return one_mark(false, x, word);
+        return one_mark(false, x, cell);
     };
     match opcode {
-        Opcode::LoadImmediate => one_mark(false, 0, word),
-        Opcode::LoadRegister => one_mark(true, z, word),
-        Opcode::LoadMemory => all_marks(word),
+        Opcode::LoadImmediate => one_mark(false, 0, cell),
+        Opcode::LoadRegister => one_mark(true, z, cell),
+        Opcode::LoadMemory => all_marks(cell),
         Opcode::StoreMemory => all_marks(x),
-        Opcode::Add => one_mark(false, both, word),
-        Opcode::Negate => one_mark(true, y, word),
-        Opcode::ShiftRight => one_mark(false, open_if(out, x), word),
-        Opcode::ShiftLeft => one_mark(false, open_if(out, x), word),
-        Opcode::And => one_mark(false, both, word),
-        Opcode::Or => one_mark(false, both, word),
-        Opcode::Xor => one_mark(false, open_if(same, both), word),
-        Opcode::Jump => one_mark(false, x, word),
-        Opcode::Halt => one_mark(false, x, word),
+        Opcode::Add => one_mark(false, both, cell),
+        Opcode::Negate => one_mark(true, y, cell),
+        Opcode::ShiftRight => clearing_mark(shifts_out(word), x, cell),
+        Opcode::ShiftLeft => clearing_mark(shifts_out(word), x, cell),
+        Opcode::And => one_mark(false, both, cell),
+        Opcode::Or => one_mark(false, both, cell),
+        Opcode::Xor => clearing_mark(has_same_sources(word), both, cell),
+        Opcode::Jump => one_mark(false, x, cell),
+        Opcode::Halt => one_mark(false, x, cell),
     }
 }
 
@@ -129,6 +132,17 @@ fn pick(second: bool, a: usize, b: usize) -> usize
     ensures { λ r. ⌜ r ≡ cond second b a ⌝ }
 {
     if second { b } else { a }
+}
+
+// A cleared register x is open. This is a store of its own: with a choice between two marks in its place, the
+// compiler made longer code for STORE (docs/BENCHMARKS.md).
+fn open_cleared(cleared: bool, word: u16, registers: &mut [u8; REGISTER_COUNT])
+    ensures { λ r. ⌜ now (registers .exit) ≡ cond cleared (set (now (registers .entry)) (digitX word) 0) (now (registers .entry)) ⌝ }
+{
+    if cleared {
+        let x = (word / 256 % 16) as usize;
+        registers[x] = 0;
+    }
 }
 
 // What a whole instruction does to the marks, by the opcode that its word has; it answers MDR's.
@@ -148,21 +162,11 @@ pub fn mark_decoded(
     let second = registers[y];
     let third = registers[z];
     let both = join(second, third);
-    let same = has_same_sources(word);
-    let out = shifts_out(word);
-    let m = moves_of(
-        decoded,
-        same,
-        out,
-        registers[x],
-        second,
-        third,
-        both,
-        memory[at],
-    );
+    let m = moves_of(decoded, word, registers[x], second, third, both, memory[at]);
     let to = pick(m.to_y, x, y);
     registers[to] = m.register;
     memory[at] = m.word;
+    open_cleared(m.cleared, word, registers);
     m.mdr
 }
 

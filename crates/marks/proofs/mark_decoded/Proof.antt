@@ -33,18 +33,12 @@ element-copy-out-third c = search needs
 join-requires : tie.Need-join-requires
 join-requires c κs = search needs
 
-has-same-sources-requires : tie.Need-has-same-sources-requires
-has-same-sources-requires c κs = search needs
-
-shifts-out-requires : tie.Need-shifts-out-requires
-shifts-out-requires c κs = search needs
-
 element-copy-out-moves-of : tie.Need-element-copy-out-moves-of
 element-copy-out-moves-of c = search needs
 
 element-copy-out-moves-of-2 : tie.Need-element-copy-out-moves-of-2
 element-copy-out-moves-of-2 c =
-    let p = c .before .before .before .before .before .before in
+    let p = c .before .before .before .before in
     omega (arith, p .reached-address .ensures, reached-below (p .before .args .word))
 
 moves-of-requires : tie.Need-moves-of-requires
@@ -55,22 +49,24 @@ pick-requires c κs = search needs
 
 element-write-registers : tie.Need-element-write-registers
 element-write-registers c =
-    let w = c .before .before .before .before .before .before .before .before .before .before .args .word in
+    let w = c .before .before .before .before .before .before .before .before .args .word in
     omega (arith, c .pick .ensures, pick-below (c .before .moves-of .result .«to_y») 16 {a = digitX w} {b = digitY w} (omega arith) (omega arith))
 
 element-write-memory : tie.Need-element-write-memory
 element-write-memory c =
-    let p = c .before .before .before .before .before .before .before .before .before in
+    let p = c .before .before .before .before .before .before .before in
     omega (arith, p .reached-address .ensures, reached-below (p .before .args .word))
+
+open-cleared-requires : tie.Need-open-cleared-requires
+open-cleared-requires c κs = search needs
 
 returns : tie.Need-returns
 returns c =
-    let o = c .before .before .before .before in
-    let k = o .before .before in
+    let t = c .before .before in
+    let k = t .before .before .before .before in
     let p = k .before .before .before in
     let a = p .before .args in
-    marks-moved (a .word) (now (a .memory)) (now (a .registers)) (a .decoded) (p .reached-address .ensures) (k .join .ensures)
-    (o .before .has-same-sources .ensures) (o .shifts-out .ensures) (c .before .moves-of .ensures) (c .pick .ensures)
+    marks-moved (a .word) (now (a .memory)) (now (a .registers)) (a .decoded) (p .reached-address .ensures) (k .join .ensures) (t .before .moves-of .ensures) (t .pick .ensures) (c .open-cleared .ensures)
 
 pub mark-decoded-spec : {M : Type 1} → statement M
 mark-decoded-spec =
@@ -84,12 +80,11 @@ mark-decoded-spec =
     element-copy-out-second
     element-copy-out-third
     join-requires
-    has-same-sources-requires
-    shifts-out-requires
     element-copy-out-moves-of
     element-copy-out-moves-of-2
     moves-of-requires
     pick-requires
     element-write-registers
     element-write-memory
+    open-cleared-requires
     returns)
