@@ -13,15 +13,11 @@ use Rattle.isa.specs.Word.{decodeWord, digitX, digitY, digitZ}
 use Rattle.control.specs.Address.{reachedAddress}
 use Rattle.marks.specs.declared.Moved.{Moved}
 use Rattle.marks.specs.Marks.{Marks, mdrMarked, joinedYZ, sameSources, shiftsOut, executedMarks, instructionMarks}
-use Rattle.marks.specs.Forms.{moves}
-
--- a register's mark n set at i, and x open where it is cleared
-abbrev registersBy : ℕ → Bool → ℕ → ℕ → List ℕ → List ℕ
-registersBy w c i n r = cond c (set (set r i n) (digitX w) 0) (set r i n)
+use Rattle.marks.specs.Forms.{moves, openedX}
 
 -- a register, the word that LOAD or STORE reaches and MDR get a mark: of the first two, where
 abbrev markedBy : ℕ → ℕ → ℕ → Moved → List ℕ → List ℕ → Marks
-markedBy w a i v m r = record { memory = set m a (v .word); registers = registersBy w (v .cleared) i (v .register) r; mdr = v .mdr }
+markedBy w a i v m r = record { memory = set m a (v .word); registers = openedX (v .cleared) w (set r i (v .register)); mdr = v .mdr }
 
 module _ (w : ℕ) (m r : List ℕ) where
   abbrev start : Marks
@@ -38,7 +34,7 @@ module _ (w : ℕ) (m r : List ℕ) where
   still : r ≡ set r (digitX w) (getD r (digitX w) 0)
   still = sym (set-getD r (digitX w) 0)
 
-  opened : (c : Bool) (n : ℕ) → set r (digitX w) (cond c 0 n) ≡ registersBy w c (digitX w) n r
+  opened : (c : Bool) (n : ℕ) → set r (digitX w) (cond c 0 n) ≡ openedX c w (set r (digitX w) n)
   opened true n = sym (set-set r (digitX w) n 0)
   opened false n = refl
 
@@ -61,7 +57,7 @@ module _ (w : ℕ) (m r : List ℕ) where
   -- by what the code finds: the word's address, the marks joined, what moves, the register, the registers' marks at the end
   pub marks-moved : (d : Decoded) {a j i : ℕ} {v : Moved} {s : List ℕ} → a ≡ reachedAddress w → j ≡ joinedYZ w start
       → v ≡ moves d w (getD r (digitX w) 0) (getD r (digitY w) 0) (getD r (digitZ w) 0) j (getD m a 0) → i ≡ cond (v .«to_y») (digitY w) (digitX w)
-      → s ≡ registersBy w (v .cleared) i (v .register) r
+      → s ≡ openedX (v .cleared) w (set r i (v .register))
       → record { memory = set m a (v .word); registers = s; mdr = v .mdr } ≡ executedMarks d w start
   marks-moved d {a} {v = v} p j e t f =
       (λ k. record { memory = set m a (v .word); registers = f k; mdr = v .mdr })

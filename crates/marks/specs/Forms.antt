@@ -2,10 +2,13 @@
 -- It is one form for every instruction: register x, or y, the word that LOAD or STORE reaches, and MDR get a mark; then x is opened where it is cleared.
 -- Assumes nothing.
 use Prim.Native.Nat.{ℕ}
-use mathlib.Core.Bool.{Bool, true, false}
+use mathlib.Core.Bool.{Bool, true, false, cond}
+use mathlib.Core.List.{List}
+use lib.ListN.{set}
 use Rattle.isa.specs.declared.opcode.Opcode.the-variants.{LoadImmediate, LoadRegister, LoadMemory, StoreMemory, Add, Negate, ShiftRight, ShiftLeft, And, Or, Xor, Jump, Halt}
 use Rattle.isa.specs.declared.opcode.Decoded.{Decoded}
 use Rattle.isa.specs.declared.opcode.Decoded.the-variants.{Known, Unknown}
+use Rattle.isa.specs.Word.{digitX}
 use Rattle.marks.specs.declared.Moved.{Moved}
 use Rattle.marks.specs.Marks.{sameSources, shiftsOut}
 
@@ -37,3 +40,7 @@ moves (Known Xor) w x y z j m = clearing (sameSources w) j m
 moves (Known Jump) w x y z j m = oneMark false x m
 moves (Known Halt) w x y z j m = oneMark false x m
 moves Unknown w x y z j m = oneMark false x m
+
+-- the registers' marks with x open, where the instruction clears it
+abbrev pub openedX : Bool → ℕ → List ℕ → List ℕ
+openedX c w r = cond c (set r (digitX w) 0) r

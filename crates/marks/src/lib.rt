@@ -1,10 +1,8 @@
 // Marks: which words and registers are hidden, and how an instruction moves that. A mark of 0 is open.
 ghost use mathlib.Core.Path.{_≡_};
 ghost use mathlib.Core.Bool.{cond};
-ghost use lib.ListN.{set};
 ghost use Rattle.marks.specs.Marks.{marked, marksOf, shown, joined, sameSources, shiftsOut, executedMarks, instructionMarks};
-ghost use Rattle.isa.specs.Word.{digitX};
-ghost use Rattle.marks.specs.Forms.{oneMark, clearing, allMarks, moves};
+ghost use Rattle.marks.specs.Forms.{oneMark, clearing, allMarks, moves, openedX};
 use control::reached_address;
 use isa::Decoded;
 use isa::Instruction;
@@ -137,7 +135,7 @@ fn pick(second: bool, a: usize, b: usize) -> usize
 // A cleared register x is open. This is a store of its own: with a choice between two marks in its place, the
 // compiler made longer code for STORE (docs/BENCHMARKS.md).
 fn open_cleared(cleared: bool, word: u16, registers: &mut [u8; REGISTER_COUNT])
-    ensures { λ r. ⌜ now (registers .exit) ≡ cond cleared (set (now (registers .entry)) (digitX word) 0) (now (registers .entry)) ⌝ }
+    ensures { λ r. ⌜ now (registers .exit) ≡ openedX cleared word (now (registers .entry)) ⌝ }
 {
     if cleared {
         let x = (word / 256 % 16) as usize;
