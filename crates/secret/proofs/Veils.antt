@@ -73,9 +73,10 @@ module _ (hid : ℕ → Bool) where
     word : Twin hid (getD (k .memory) (reachedAddress (p .ir)) 0) (getD (a .memory) (reachedAddress (p .ir)) 0) (getD (b .memory) (reachedAddress (p .ir)) 0)
     word = twins-get (g .memory) (reachedAddress (p .ir))
 
-    -- a register that is opened where both machines have 0 in it, whatever they had before
-    clear : (c : Bool) (r : ℕ) {m x y : ℕ} → (c ≡ true → x ≡ 0) → (c ≡ true → y ≡ 0) → Twin hid m x y → Twins hid (set (k .registers) r (cond c 0 m)) (set (a .registers) r x) (set (b .registers) r y)
-    clear c r e f t = put r (twin-cleared c e f t)
+    -- register x, which is opened where both machines have 0 in it, whatever they had before
+    clear : (c : Bool) {m x y : ℕ} → (c ≡ true → x ≡ 0) → (c ≡ true → y ≡ 0) → Twin hid m x y
+        → let r = digitX (p .ir) in Twins hid (set (k .registers) r (cond c 0 m)) (set (a .registers) r x) (set (b .registers) r y)
+    clear c e f t = put (digitX (p .ir)) (twin-cleared c e f t)
 
     -- a jump's public part by its test; no other instruction's has one
     jumps : unseen (p .ir) (k .registers) ≡ false → publicOf (finished (Known Jump) p a) ≡ publicOf (finished (Known Jump) p b)
@@ -91,11 +92,11 @@ module _ (hid : ℕ → Bool) where
     rests (Known StoreMemory) h = record { public = refl; rest = refl; memory = twins-set (g .memory) (reachedAddress (p .ir)) (reg (digitX (p .ir))); registers = g .registers; mdr = reg (digitX (p .ir)) }
     rests (Known Add) h = record { public = refl; rest = refl; memory = g .memory; registers = put (digitX (p .ir)) (twin-join J sum16 (reg (digitY (p .ir))) (reg (digitZ (p .ir)))); mdr = g .mdr }
     rests (Known Negate) h = record { public = refl; rest = refl; memory = g .memory; registers = put (digitY (p .ir)) (twin-map negate16 (reg (digitY (p .ir)))); mdr = g .mdr }
-    rests (Known ShiftRight) h = record { public = refl; rest = refl; memory = g .memory; registers = clear (shiftsOut (p .ir)) (digitX (p .ir)) (λ e. shift-cleared (p .ir) _ e .0) (λ e. shift-cleared (p .ir) _ e .0) (twin-map (right16 (byteYZ (p .ir))) (reg (digitX (p .ir)))); mdr = g .mdr }
-    rests (Known ShiftLeft) h = record { public = refl; rest = refl; memory = g .memory; registers = clear (shiftsOut (p .ir)) (digitX (p .ir)) (λ e. shift-cleared (p .ir) _ e .1) (λ e. shift-cleared (p .ir) _ e .1) (twin-map (left16 (byteYZ (p .ir))) (reg (digitX (p .ir)))); mdr = g .mdr }
+    rests (Known ShiftRight) h = record { public = refl; rest = refl; memory = g .memory; registers = clear (shiftsOut (p .ir)) (λ e. shift-cleared (p .ir) _ e .0) (λ e. shift-cleared (p .ir) _ e .0) (twin-map (right16 (byteYZ (p .ir))) (reg (digitX (p .ir)))); mdr = g .mdr }
+    rests (Known ShiftLeft) h = record { public = refl; rest = refl; memory = g .memory; registers = clear (shiftsOut (p .ir)) (λ e. shift-cleared (p .ir) _ e .1) (λ e. shift-cleared (p .ir) _ e .1) (twin-map (left16 (byteYZ (p .ir))) (reg (digitX (p .ir)))); mdr = g .mdr }
     rests (Known And) h = record { public = refl; rest = refl; memory = g .memory; registers = put (digitX (p .ir)) (twin-join J bitAnd (reg (digitY (p .ir))) (reg (digitZ (p .ir)))); mdr = g .mdr }
     rests (Known Or) h = record { public = refl; rest = refl; memory = g .memory; registers = put (digitX (p .ir)) (twin-join J bitOr (reg (digitY (p .ir))) (reg (digitZ (p .ir)))); mdr = g .mdr }
-    rests (Known Xor) h = record { public = refl; rest = refl; memory = g .memory; registers = clear (sameSources (p .ir)) (digitX (p .ir)) (xor-cleared (p .ir) (a .registers)) (xor-cleared (p .ir) (b .registers)) (twin-join J bitXor (reg (digitY (p .ir))) (reg (digitZ (p .ir)))); mdr = g .mdr }
+    rests (Known Xor) h = record { public = refl; rest = refl; memory = g .memory; registers = clear (sameSources (p .ir)) (xor-cleared (p .ir) (a .registers)) (xor-cleared (p .ir) (b .registers)) (twin-join J bitXor (reg (digitY (p .ir))) (reg (digitZ (p .ir)))); mdr = g .mdr }
     rests (Known Jump) h = record { public = jumps h; rest = refl; memory = g .memory; registers = g .registers; mdr = g .mdr }
     rests (Known Halt) h = record { public = refl; rest = refl; memory = g .memory; registers = g .registers; mdr = g .mdr }
     rests Unknown h = record { public = refl; rest = refl; memory = g .memory; registers = g .registers; mdr = g .mdr }
