@@ -1,8 +1,8 @@
-/* The calls of libmassey_bench.a (rt staticlib massey_bench), for timing. Each
- * loads the image's whole words, of which the first 256 count, on a new machine,
- * puts one of the machine's calls to work so many times, and answers a number
- * that shows what was done; none is refused. A pointer and the number after it
- * are one slice of bytes, as in massey.h; slices do not overlap. */
+/* The calls of libmassey_bench.a (rt staticlib massey_bench), for timing. Those
+ * with an image load its whole words, of which the first 256 count, on a new
+ * machine, put one of the machine's calls to work so many times, and answer a
+ * number that shows what was done; none is refused. A pointer and the number
+ * after it are one slice of bytes, as in massey.h; slices do not overlap. */
 #ifndef MASSEY_BENCH_H
 #define MASSEY_BENCH_H
 
@@ -45,6 +45,10 @@ uint64_t massey_pushes(const uint8_t *image, size_t image_len, uint8_t *store,
 uint64_t massey_undos(const uint8_t *image, size_t image_len,
                       const uint8_t *store, size_t store_len, uint64_t count,
                       uint64_t n);
+
+/* Writes the four digits of a word, and zeros up to 32 bytes, where out has room
+ * for all of them, and answers 4. */
+uint64_t massey_format_word(uint16_t word, uint8_t *out, size_t out_len);
 
 #ifdef __cplusplus
 }

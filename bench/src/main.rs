@@ -10,7 +10,7 @@ mod timing;
 use oracle::random::Random;
 use oracle::sizes::{LISTING_WORDS, TEXT};
 use oracle::words::disassembly;
-use oracle::{disasm, images};
+use oracle::{disasm, images, isa};
 use std::hint::black_box;
 use std::time::{Duration, Instant};
 
@@ -26,6 +26,7 @@ fn main() {
     agree(&sets);
     println!("| name | Rust ns | ours ns | ratio | limit |");
     println!("|---|---:|---:|---:|---:|");
+    row("`format_word` of all 65,536 words", "none", formatting());
     row(
         "`disassemble` of 256 words",
         "0.1",
@@ -101,6 +102,10 @@ fn mix(seed: u64) -> Vec<u16> {
 /// texts in the word, which the original does not: so it is held to the model.
 fn agree(sets: &[Vec<u16>]) {
     let (mut text, mut out) = ([0; TEXT], [0; LISTING]);
+    for word in 0..=u16::MAX {
+        let length = timing::format_word(word, &mut text) as usize;
+        assert_eq!(text[..length], *isa::format_word(word).as_bytes());
+    }
     for words in sets {
         for word in words {
             let length = archive::disassemble(*word, &mut text) as usize;
@@ -112,6 +117,21 @@ fn agree(sets: &[Vec<u16>]) {
             *disassembly::disassemble_image(words).as_bytes()
         );
     }
+}
+
+fn formatting() -> (f64, f64) {
+    let mut out = [0; TEXT];
+    let mut rust = || {
+        for word in 0..=u16::MAX {
+            black_box(isa::format_word(black_box(word)));
+        }
+    };
+    let mut ours = || {
+        for word in 0..=u16::MAX {
+            black_box(timing::format_word(black_box(word), black_box(&mut out)));
+        }
+    };
+    medians(ROUNDS, 1, &mut rust, &mut ours)
 }
 
 fn disassembling(sets: &[Vec<u16>]) -> (f64, f64) {

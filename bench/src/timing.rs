@@ -1,5 +1,5 @@
-//! The port's calls for timing, `bench/massey_bench.h`: each loads an image on a
-//! new machine, puts one call to work and answers a number that shows what was
+//! The port's calls for timing, `bench/massey_bench.h`: all but one load an image
+//! on a new machine, put one call to work and answer a number that shows what was
 //! done. Nothing checks these declarations against the port's source, so they
 //! are kept to this one place.
 
@@ -33,7 +33,15 @@ mod c {
             count: u64,
             n: u64,
         ) -> u64;
+        pub fn massey_format_word(word: u16, out: *mut u8, out_len: usize) -> u64;
     }
+}
+
+/// How many digits the text of a word has. They are in `out`, where that has room
+/// for a text's field.
+pub fn format_word(word: u16, out: &mut [u8]) -> u64 {
+    // SAFETY: pointer and length are those of a slice lent for the call.
+    unsafe { c::massey_format_word(word, out.as_mut_ptr(), out.len()) }
 }
 
 /// The micro operations of a run with that budget and these breakpoints, after

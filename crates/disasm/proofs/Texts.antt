@@ -14,17 +14,15 @@ use Rattle.isa.specs.declared.opcode.Decoded.{Decoded}
 use Rattle.isa.specs.declared.opcode.Decoded.the-variants.{Known, Unknown}
 use Rattle.isa.specs.declared.text.Text.{Text}
 use Rattle.isa.specs.Text.{ascii, text, padded}
-use Rattle.isa.specs.Opcode.{nibbleOf}
-use Rattle.isa.specs.Word.{digitW, decodeWord}
+use Rattle.isa.specs.Word.{decodeWord}
 use Rattle.isa.specs.Nibbles.{unusedOf, unused}
-use Rattle.isa.specs.Format.{hexDigit, hex4, fill, fillByte}
+use Rattle.isa.specs.Format.{hex4, fill, fillByte}
 use Rattle.isa.proofs.Texts.{length-padded}
 use Rattle.isa.proofs.Fills.{length-fill}
-use Rattle.isa.proofs.Words.{opcode-digit}
 use Rattle.encoding.specs.Bytes.{over, within, written}
 use Rattle.encoding.proofs.Written.{over-nil, written-fits}
 use Rattle.disasm.specs.Disassembly.{template, ending, disassembleText}
-use Rattle.disasm.specs.Forms.{digitsFrom, endedBytes}
+use Rattle.disasm.specs.Forms.{endedBytes}
 
 ending-short : (loose : Bool) → length (ending loose) ≤ 7
 ending-short true = lit≤ tt
@@ -78,10 +76,10 @@ unfolding disassembleText fill
 texted w d e f g = g ∙ rw (e, f)
 
 -- a text's field, from what is written of its struct
-pub fielded : (w : ℕ) (d : List ℕ) (at : ℕ) {t : Text} {r : ℕ} {o : List ℕ} → t ≡ text (disassembleText w) → (r ≡ t .len) × (o ≡ written d at (t .bytes))
-    → (r ≡ length (disassembleText w)) × (o ≡ written d at (padded 32 (disassembleText w)))
+pub fielded : (w : ℕ) (d : List ℕ) {t : Text} {r : ℕ} {o : List ℕ} → t ≡ text (disassembleText w) → (r ≡ t .len) × (o ≡ written d 0 (t .bytes))
+    → (r ≡ length (disassembleText w)) × (o ≡ written d 0 (padded 32 (disassembleText w)))
 unfolding text
-fielded w d at e f = (f .0 ∙ ap (λ (u : Text). u .len) e, f .1 ∙ ap (λ (u : Text). written d at (u .bytes)) e)
+fielded w d e f = (f .0 ∙ ap (λ (u : Text). u .len) e, f .1 ∙ ap (λ (u : Text). written d 0 (u .bytes)) e)
 
 -- a field that was filled whole
 pub whole-field : (w : ℕ) (d : List ℕ) {r : ℕ} {o : List ℕ} → length d ≡ 32 → (r ≡ length (disassembleText w)) × (o ≡ written d 0 (padded 32 (disassembleText w)))
@@ -122,27 +120,27 @@ written-none d at = go (within d at 0)
     go false = refl
 
 -- a field without the word behind the text, and with it, from what is written
-module _ (t : Text) (first : ℕ) (digits d : List ℕ) (at : ℕ) (loose : Bool) where
+module _ (t : Text) (digits d : List ℕ) (loose : Bool) where
   abbrev pub Ended : ℕ → List ℕ → Type 0
-  Ended r o = (r ≡ t .len + length (ending loose)) × (o ≡ written d at (endedBytes t first digits loose))
+  Ended r o = (r ≡ t .len + length (ending loose)) × (o ≡ written d 0 (endedBytes t digits loose))
 
-  pub without-word : {r : ℕ} {o : List ℕ} → loose ≡ false → (r ≡ t .len) × (o ≡ written d at (t .bytes)) → Ended r o
+  pub without-word : {r : ℕ} {o : List ℕ} → loose ≡ false → (r ≡ t .len) × (o ≡ written d 0 (t .bytes)) → Ended r o
   without-word e f = rw (e, written-none) (f .0 ∙ omega arith, f .1)
 
-  pub with-word : {r : ℕ} {b o : List ℕ} → loose ≡ true → b ≡ written (t .bytes) (t .len) (map (fillByte (digitsFrom first digits)) (ascii " ; Wxyz"))
-      → (r ≡ t .len + 7) × (o ≡ written d at b) → Ended r o
-  with-word e g f = rw e (f .0, f .1 ∙ ap (written d at) g)
+  pub with-word : {r : ℕ} {b o : List ℕ} → loose ≡ true → b ≡ written (t .bytes) (t .len) (map (fillByte (digits)) (ascii " ; Wxyz"))
+      → (r ≡ t .len + 7) × (o ≡ written d 0 b) → Ended r o
+  with-word e g f = rw e (f .0, f .1 ∙ ap (written d 0) g)
 
 -- the field of a word whose opcode is known, from what is written of its text's struct
-module _ (w : ℕ) (op : Opcode) (d : List ℕ) (at : ℕ) where
+module _ (w : ℕ) (op : Opcode) (d : List ℕ) where
   abbrev base : List ℕ
   base = ascii (template (Known op))
 
   abbrev loosely : Bool
   loosely = not (eqb (unusedOf op w) 0)
 
-  behind : {t : Text} {r : ℕ} {o : List ℕ} → length base + 7 ≤ 32 → t ≡ text (fill w base) → (r ≡ t .len + length (ending loosely)) × (o ≡ written d at (written (t .bytes) (t .len) (fill w (ending loosely))))
-      → (r ≡ length (fill w (base ++ ending loosely))) × (o ≡ written d at (padded 32 (fill w (base ++ ending loosely))))
+  behind : {t : Text} {r : ℕ} {o : List ℕ} → length base + 7 ≤ 32 → t ≡ text (fill w base) → (r ≡ t .len + length (ending loosely)) × (o ≡ written d 0 (written (t .bytes) (t .len) (fill w (ending loosely))))
+      → (r ≡ length (fill w (base ++ ending loosely))) × (o ≡ written d 0 (padded 32 (fill w (base ++ ending loosely))))
   unfolding text fill
   behind {t} h x f =
       let l : t .len ≡ length (fill w base) = ap (λ (v : Text). v .len) x in
@@ -152,12 +150,10 @@ module _ (w : ℕ) (op : Opcode) (d : List ℕ) (at : ℕ) where
       let z : length (fill w (base ++ ending loosely)) ≡ length base + length (ending loosely) = length-fill w (base ++ ending loosely) ∙ length-append base (ending loosely) in
       let p : written (t .bytes) (t .len) (fill w (ending loosely)) ≡ padded 32 (fill w base ++ fill w (ending loosely)) =
       ap (λ (j : Text). written (j .bytes) (j .len) (fill w (ending loosely))) x ∙ padded-more 32 (fill w base) (fill w (ending loosely)) (omega (arith, h, v, m, c)) in
-      (f .0 ∙ omega (arith, l, v, z), f .1 ∙ ap (written d at) (p ∙ ap (padded 32) (sym (map-append (fillByte (hex4 w)) base (ending loosely)))))
+      (f .0 ∙ omega (arith, l, v, z), f .1 ∙ ap (written d 0) (p ∙ ap (padded 32) (sym (map-append (fillByte (hex4 w)) base (ending loosely)))))
 
-  pub ended : {digits : List ℕ} {first n : ℕ} {t : Text} {r : ℕ} {o : List ℕ} → digits ≡ hex4 w → decodeWord w ≡ Known op → length base + 7 ≤ 32
-      → first ≡ hexDigit (nibbleOf op) → n ≡ unusedOf op w → t ≡ text (map (fillByte digits) base) → Ended t first digits d at (not (eqb n 0)) r o
-      → (r ≡ length (disassembleText w)) × (o ≡ written d at (padded 32 (disassembleText w)))
+  pub ended : {digits : List ℕ} {n : ℕ} {t : Text} {r : ℕ} {o : List ℕ} → digits ≡ hex4 w → decodeWord w ≡ Known op → length base + 7 ≤ 32
+      → n ≡ unusedOf op w → t ≡ text (map (fillByte digits) base) → Ended t digits d (not (eqb n 0)) r o
+      → (r ≡ length (disassembleText w)) × (o ≡ written d 0 (padded 32 (disassembleText w)))
   unfolding fill disassembleText
-  ended {first = first} e k h q u g f =
-      let i : first ≡ hexDigit (digitW w) = q ∙ ap hexDigit (sym (opcode-digit w op k)) in
-      rw k (behind h (rw e at g) (rw (u, e, i) at f))
+  ended e k h u g f = rw k (behind h (rw e at g) (rw (u, e) at f))

@@ -9,9 +9,10 @@ ghost use lib.ListN.{length};
 ghost use Rattle.isa.specs.Sizes.{textWidth};
 ghost use Rattle.isa.specs.Text.{ascii, padded, text};
 ghost use Rattle.encoding.specs.Bytes.{written};
-ghost use Rattle.isa.specs.Format.{fillByte};
+ghost use Rattle.isa.specs.Format.{hex4, fillByte};
 ghost use Rattle.disasm.specs.Disassembly.{ending, disassembleText};
 ghost use Rattle.disasm.specs.Forms.{endedBytes};
+use encoding::inside;
 use encoding::put_bytes;
 use isa::Decoded;
 use isa::Instruction;
@@ -154,59 +155,58 @@ fn halt_text() -> Text
     Text::from_bytes(b"HALT")
 }
 
-// A text's whole field of 32 bytes from index `at` on, where it fits; what is answered is the
-// length of the text.
-fn put_field(out: &mut [u8], at: usize, t: Text) -> u8
-    ensures { λ r. ⌜ (r ≡ t .len) × (now (out .exit) ≡ written (now (out .entry)) at (t .bytes)) ⌝ }
+// A text's field of 32 bytes; what is answered is the length of the text.
+fn put_field(field: &mut [u8], t: Text) -> u8
+    ensures { λ r. ⌜ (r ≡ t .len) × (now (field .exit) ≡ written (now (field .entry)) 0 (t .bytes)) ⌝ }
 {
     let bytes = t.bytes;
-    put_bytes(out, at, &bytes);
+    put_bytes(field, 0, &bytes);
     t.len
 }
 
 // The same, with the word behind the text where that is loose: it has a digit that its instruction
-// does not use and that is not 0. Who copies the text then has the whole word. The first digit is
-// the opcode's, and told apart: taken from the word, it would be made ready for every text.
-fn put_ended(out: &mut [u8], at: usize, t: Text, digits: [u8; 4], first: u8, loose: bool) -> u8
+// does not use and that is not 0. Who copies the text then has the whole word.
+fn put_ended(field: &mut [u8], t: Text, digits: [u8; 4], loose: bool) -> u8
     requires { ⌜ t .len + length (ending true) ≤ textWidth ⌝ }
-    ensures { λ r. ⌜ (r ≡ t .len + length (ending loose)) × (now (out .exit) ≡ written (now (out .entry)) at (endedBytes t first digits loose)) ⌝ }
+    ensures { λ r. ⌜ (r ≡ t .len + length (ending loose)) × (now (field .exit) ≡ written (now (field .entry)) 0 (endedBytes t digits loose)) ⌝ }
 {
     if !loose {
-        return put_field(out, at, t);
+        return put_field(field, t);
     }
-    let ending = [b' ', b';', b' ', first, digits[1], digits[2], digits[3]];
+    let ending = [b' ', b';', b' ', digits[0], digits[1], digits[2], digits[3]];
     let mut bytes = t.bytes;
     put_bytes(&mut bytes, t.len as usize, &ending);
     let len = t.len + ending.len() as u8;
-    put_field(out, at, Text { bytes, len })
+    put_field(field, Text { bytes, len })
 }
 
-// Disassemble one machine word into its field of 32 bytes from index `at` on, where that fits; what
-// is answered is the length of the text. A word without an opcode becomes a ??? comment, so that a
-// listing can show every memory word without lying about what the machine would do. Each arm writes
-// by itself: a text that is handed on first takes half as long again.
-pub fn disassemble_into(out: &mut [u8], at: usize, word: u16) -> u8
-    ensures { λ r. ⌜ (r ≡ length (disassembleText word)) × (now (out .exit) ≡ written (now (out .entry)) at (padded 32 (disassembleText word))) ⌝ }
+// The text of a machine word with these digits in its field; what is answered is the length of the text.
+// A word without an opcode becomes a ??? comment, so that a listing can show every memory word without
+// lying about what the machine would do. Each arm writes by itself: a text that is handed on first takes
+// half as long again. The digits come from outside: where they are looked up in here, a text takes an
+// eighth longer.
+fn put_disassembly(field: &mut [u8], word: u16, digits: [u8; 4]) -> u8
+    requires { ⌜ digits ≡ hex4 word ⌝ }
+    ensures { λ r. ⌜ (r ≡ length (disassembleText word)) × (now (field .exit) ≡ written (now (field .entry)) 0 (padded 32 (disassembleText word))) ⌝ }
 {
-    let digits = digits_of(word);
     let Decoded::Known(opcode) = Instruction::from_word(word).opcode() else {
-        return put_field(out, at, unknown_text(digits));
+        return put_field(field, unknown_text(digits));
     };
     let loose = opcode.unused(word) != 0;
     match opcode {
-        Opcode::LoadImmediate => put_field(out, at, load_immediate_text(digits)),
-        Opcode::LoadRegister => put_ended(out, at, load_register_text(digits), digits, b'2', loose),
-        Opcode::LoadMemory => put_field(out, at, load_memory_text(digits)),
-        Opcode::StoreMemory => put_field(out, at, store_memory_text(digits)),
-        Opcode::Add => put_field(out, at, add_text(digits)),
-        Opcode::Negate => put_ended(out, at, negate_text(digits), digits, b'7', loose),
-        Opcode::ShiftRight => put_field(out, at, shift_right_text(digits)),
-        Opcode::ShiftLeft => put_field(out, at, shift_left_text(digits)),
-        Opcode::And => put_field(out, at, and_text(digits)),
-        Opcode::Or => put_field(out, at, or_text(digits)),
-        Opcode::Xor => put_field(out, at, xor_text(digits)),
-        Opcode::Jump => put_field(out, at, jump_text(digits)),
-        Opcode::Halt => put_ended(out, at, halt_text(), digits, b'E', loose),
+        Opcode::LoadImmediate => put_field(field, load_immediate_text(digits)),
+        Opcode::LoadRegister => put_ended(field, load_register_text(digits), digits, loose),
+        Opcode::LoadMemory => put_field(field, load_memory_text(digits)),
+        Opcode::StoreMemory => put_field(field, store_memory_text(digits)),
+        Opcode::Add => put_field(field, add_text(digits)),
+        Opcode::Negate => put_ended(field, negate_text(digits), digits, loose),
+        Opcode::ShiftRight => put_field(field, shift_right_text(digits)),
+        Opcode::ShiftLeft => put_field(field, shift_left_text(digits)),
+        Opcode::And => put_field(field, and_text(digits)),
+        Opcode::Or => put_field(field, or_text(digits)),
+        Opcode::Xor => put_field(field, xor_text(digits)),
+        Opcode::Jump => put_field(field, jump_text(digits)),
+        Opcode::Halt => put_ended(field, halt_text(), digits, loose),
     }
 }
 
@@ -215,6 +215,19 @@ pub fn disassemble(word: u16) -> Text
     ensures { λ r. ⌜ r ≡ text (disassembleText word) ⌝ }
 {
     let mut bytes = [0u8; TEXT_WIDTH];
-    let len = disassemble_into(&mut bytes, 0, word);
+    let len = put_disassembly(&mut bytes, word, digits_of(word));
     Text { bytes, len }
+}
+
+// Disassemble one machine word into its field of 32 bytes from index `at` on, where that fits; what
+// is answered is the length of the text.
+pub fn disassemble_into(out: &mut [u8], at: usize, word: u16) -> u8
+    ensures { λ r. ⌜ (r ≡ length (disassembleText word)) × (now (out .exit) ≡ written (now (out .entry)) at (padded 32 (disassembleText word))) ⌝ }
+{
+    if !inside(out.len(), at, TEXT_WIDTH) {
+        let t = disassemble(word);
+        return t.len;
+    }
+    let end = at + TEXT_WIDTH;
+    put_disassembly(&mut out[at..end], word, digits_of(word))
 }

@@ -1,14 +1,15 @@
 -- The laws of `over`, `written` and `eachFrom` of `specs/Bytes.antt`: lengths, one piece behind the other, what is read back. Assumes nothing.
 use mathlib.Core.Path.{_≡_, refl, sym, _∙_}
 use mathlib.Core.Bool.{Bool, true, false, cond}
-use mathlib.Core.List.{List, [], _∷_, _++_, append-assoc}
+use mathlib.Core.List.{List, [], _∷_, _++_, append-assoc, append-nil}
 use Prim.Native.Nat.{ℕ, zero, suc, _+_, _-_, _*_, _≤_, _<_}
 use native.Mathlib.Nat.{add-zero, add-assoc, mul-zero, mul-le-mul-left}
 use native.Mathlib.Numerals.{add-one}
 use native.Mathlib.Omega.{arith}
 use borrow.Author.Tests.{le-leb, lt-leb, leb-true}
-use lib.ListN.{length, take, drop, length-append, length-take, length-drop, take-append-drop}
+use lib.ListN.{length, take, drop, length-append, length-take, length-drop, take-append-drop, drop-of-length-le}
 use lib.Seq.{take-append-seam, drop-append-add, drop-at, drop-drop, length-take-le}
+use borrow.Rule.Slice.PartMut.{midOf, putMid, mid-len, post-is}
 use Rattle.encoding.specs.Bytes.{over, within, written, eachFrom}
 
 -- ---- written over
@@ -59,6 +60,16 @@ written-cut d at bs h = rw (lt-leb (at + length bs) (length d) h)
 
 pub written-from : (d : List ℕ) (at : ℕ) (bs : List ℕ) → at + length bs ≤ length d → drop at (written d at bs) ≡ bs ++ drop (at + length bs) d
 written-from d at bs h = rw (written-fits d at bs h) (over-from d at bs (omega arith))
+
+-- bytes written into a part of a list that has just their length
+pub part-written : (d : List ℕ) (at e : ℕ) (bs : List ℕ) {p : List ℕ} → at + length bs ≡ e → e ≤ length d → p ≡ written (midOf at (e - at) d) 0 bs
+    → putMid at (e - at) d p ≡ written d at bs
+unfolding over
+part-written d at e bs {p} s h q =
+    let l : length (midOf at (e - at) d) ≡ e - at = mid-len at e d h in
+    let z : drop (0 + length bs) (midOf at (e - at) d) ≡ [] = drop-of-length-le (midOf at (e - at) d) {i = 0 + length bs} (omega arith) in
+    let f : p ≡ bs = q ∙ written-fits (midOf at (e - at) d) 0 bs (omega arith) ∙ rw (z, append-nil) in
+    rw (f, post-is at e d (omega arith)) (sym (written-fits d at bs (omega arith) ∙ rw s))
 
 pub length-written : (d : List ℕ) (at : ℕ) (bs : List ℕ) → length (written d at bs) ≡ length d
 unfolding written

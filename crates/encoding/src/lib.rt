@@ -8,7 +8,7 @@ ghost use Rattle.encoding.specs.Bytes.{over, bigEndian, bigEndians, numb
 
 // Whether `n` bytes at index `at` lie wholly in `len` bytes. It subtracts, since `at + n` may be too large for
 // a usize.
-fn inside(len: usize, at: usize, n: usize) -> bool
+pub fn inside(len: usize, at: usize, n: usize) -> bool
     ensures { λ r. ⌜ r ≡ leb (at + n) len ⌝ }
 {
     if len < at {

@@ -1,4 +1,5 @@
--- Two tests that both hold, and one test of all numbers below n: computed once, it holds of each.
+-- Two tests that both hold; one test of all numbers below n, computed once, which holds of each, so that a table's rule is proved by computing;
+-- and the last number of a match.
 -- Assumes nothing.
 use Prim.Native.Nat.{ℕ, zero, suc, _<_}
 use native.Mathlib.Omega.{arith}
@@ -23,3 +24,16 @@ tested f (suc n) e k h = go (eqb k n) refl (λ p. tested f n (both (f n) (below 
     go : (v : Bool) → eqb k n ≡ v → (k < n → f k ≡ true) → f k ≡ true
     go true q r = rw (eqb-true k n q) (both (f n) (below f n) e .0)
     go false q r = let z : k ≡ n → ⊥ = eqb-false k n q in r (omega arith)
+
+-- k is none of the numbers below n: what a match that names them leaves for its last arm
+abbrev pub Others : ℕ → ℕ → Type 0
+Others k zero = Unit {0}
+Others k (suc n) = Others k n × (k ≡ n → ⊥)
+
+pub last-arm : (n k : ℕ) → Others k n → k < suc n → k ≡ n
+last-arm zero k h l = omega arith
+last-arm (suc n) k h l = go (eqb k (suc n)) refl (λ p. last-arm n k (h .0) p)
+  where
+    go : (v : Bool) → eqb k (suc n) ≡ v → (k < suc n → k ≡ n) → k ≡ suc n
+    go true q r = eqb-true k (suc n) q
+    go false q r = let z : k ≡ suc n → ⊥ = eqb-false k (suc n) q in absurd (h .1 (r (omega arith)))

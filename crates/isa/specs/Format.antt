@@ -1,6 +1,6 @@
 -- Words, bytes and registers as texts (isa.rs, `format_word`, `format_byte`, `register_name`), templates for texts, and numbers in decimal.
 -- Assumes nothing.
-use Prim.Native.Nat.{ℕ, zero, suc, _+_, _/_, _%_}
+use Prim.Native.Nat.{ℕ, zero, suc, _+_, _*_, _/_, _%_}
 use Prim.Native.Char.{code}
 use mathlib.Core.Bool.{cond}
 use mathlib.Core.List.{List, [], _∷_, _++_, map}
@@ -12,6 +12,14 @@ use Rattle.isa.specs.Word.{digitW, digitX, digitY, digitZ}
 -- the uppercase hexadecimal digit of a number below 16
 abbrev pub hexDigit : ℕ → ℕ
 hexDigit n = getD (ascii "0123456789ABCDEF") n 0
+
+-- a byte's two digits as one number, the high one in the high byte (02, Change 3)
+unfoldable pub digitPair : ℕ → ℕ
+digitPair b = hexDigit (b / 16) * 256 + hexDigit (b % 16)
+
+-- the entry of a table of pairs for a byte
+unfoldable pub entryOf : List ℕ → ℕ → ℕ
+entryOf pairs b = getD pairs b 0
 
 -- a word as four digits: format!("{:04X}")
 abbrev pub hex4 : ℕ → List ℕ

@@ -1,31 +1,29 @@
 // Words, bytes and registers as texts. Texts with a word's digits in them are made from templates.
 ghost use mathlib.Core.Path.{_≡_};
-ghost use Prim.Native.Nat.{_<_};
 ghost use lib.ListN.{take};
 ghost use Rattle.isa.specs.Text.{text};
-ghost use Rattle.isa.specs.Format.{hexDigit, hex2, hex4, fillByte, fill, registerName};
+ghost use Rattle.isa.specs.Format.{hex2, hex4, fillByte, fill, registerName};
 use crate::TEXT_WIDTH;
+use crate::table::digit_pair;
 use crate::text::Text;
 use crate::text::least;
 
-// The digit of a number below 16.
-fn hex_digit(n: u8) -> u8
-    requires { ⌜ n < 16 ⌝ }
-    ensures { λ r. ⌜ r ≡ hexDigit n ⌝ }
-{
-    if n < 10 { b'0' + n } else { b'A' - 10 + n }
-}
-
-// The four digits of a word.
+// The four digits of a word: the pairs of its two bytes, the low one first. A loop, so that the table is read in
+// one place of the code: with a call for each byte a disassembly takes a seventh longer.
 pub fn digits_of(word: u16) -> [u8; 4]
     ensures { λ r. ⌜ r ≡ hex4 word ⌝ }
 {
-    [
-        hex_digit((word / 4096 % 16) as u8),
-        hex_digit((word / 256 % 16) as u8),
-        hex_digit((word / 16 % 16) as u8),
-        hex_digit((word % 16) as u8),
-    ]
+    let mut digits = [0u8; 4];
+    let mut rest = word;
+    let mut left = 2;
+    while 0 < left {
+        left -= 1;
+        let pair = digit_pair((rest % 256) as u8);
+        digits[2 * left] = (pair / 256) as u8;
+        digits[2 * left + 1] = (pair % 256) as u8;
+        rest = rest / 256;
+    }
+    digits
 }
 
 // What stands in a text for a byte of its template: for W, x, y and z the word's digits.
@@ -64,7 +62,8 @@ pub fn format(template: &[u8], word: u16) -> Text
 pub fn format_word(word: u16) -> Text
     ensures { λ r. ⌜ r ≡ text (hex4 word) ⌝ }
 {
-    format(b"Wxyz", word)
+    let digits = digits_of(word);
+    Text::from_bytes(&digits)
 }
 
 // Format a byte as two uppercase hexadecimal digits.

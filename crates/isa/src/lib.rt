@@ -2,6 +2,7 @@
 mod digits;
 mod instruction;
 mod opcode;
+mod table;
 mod text;
 
 pub use digits::ByteOption;

@@ -5,7 +5,7 @@ use Prim.Native.Char.{code}
 use native.Mathlib.Omega.{arith}
 use mathlib.Core.Bool.{Bool, true, false, cond}
 use mathlib.Core.Path.{_≡_, refl, sym, ap, _∙_}
-use mathlib.Core.List.{List, [], _∷_, _++_, append-nil}
+use mathlib.Core.List.{List, [], _∷_, _++_}
 use borrow.Author.Tests.{eqb-true, eqb-false, ne-eqb}
 use lib.Dec.{eqb, ltb, lit≤}
 use lib.ListN.{length, getD, take, set, replicate, length-append, length-replicate, length-set, getD-replicate}
@@ -152,12 +152,6 @@ pub columns : (d : List ℕ) (at m n p : ℕ) (xs ys : List ℕ) {t u : Text} {o
 columns d at m n p xs ys h q room e f g k =
     let l : length (spaced m xs) ≡ m = length-spaced m xs h in
     k ∙ rw (g, e, f, textOf-text, textOf-text) (over-over d at (spaced m xs) (spaced n ys) p (omega arith) (omega arith))
-
--- a text that fills its column has no spaces behind it
-pub full : (n : ℕ) (xs : List ℕ) → length xs ≡ n → spaced n xs ≡ xs
-full n xs e =
-    let z : n - length xs ≡ 0 = omega arith in
-    rw (z, append-nil)
 
 -- ---- a line
 

@@ -17,16 +17,19 @@ returns c =
     let p = c .before .before in
     let i = p .before .before in
     let s = i .before .before .args in
-    without-word (s .t) (s .first) (s .t4) (now (s .out)) (s .at) (s .loose) (not-true _ (i .if1 .taken)) (p .put-field .ensures)
+    without-word (s .t) (s .t3) (now (s .field)) (s .loose) (not-true _ (i .if1 .taken)) (p .put-field .ensures)
 
 array-read-len : tie.Need-array-read-len
 array-read-len c = search needs
 
-array-read-t19 : tie.Need-array-read-t19
-array-read-t19 c = search needs
+array-read-t17 : tie.Need-array-read-t17
+array-read-t17 c = search needs
 
-array-read-t22 : tie.Need-array-read-t22
-array-read-t22 c = search needs
+array-read-t20 : tie.Need-array-read-t20
+array-read-t20 c = search needs
+
+array-read-t23 : tie.Need-array-read-t23
+array-read-t23 c = search needs
 
 slice-aggregate-put-bytes : tie.Need-slice-aggregate-put-bytes
 slice-aggregate-put-bytes c = search needs
@@ -58,7 +61,7 @@ returns-2 c =
     let b = p .before .before .before .before in
     let i = b .before .before .before .before .before in
     let s = i .before .before .args in
-    with-word (s .t) (s .first) (s .t4) (now (s .out)) (s .at) (s .loose) (not-false _ (i .if1 .left)) (b .put-bytes .ensures) (p .put-field2 .ensures)
+    with-word (s .t) (s .t3) (now (s .field)) (s .loose) (not-false _ (i .if1 .left)) (b .put-bytes .ensures) (p .put-field2 .ensures)
 
 pub put-ended-spec : {M : Type 1} → statement M
 put-ended-spec =
@@ -68,8 +71,9 @@ put-ended-spec =
     same-length
     returns
     array-read-len
-    array-read-t19
-    array-read-t22
+    array-read-t17
+    array-read-t20
+    array-read-t23
     slice-aggregate-put-bytes
     cast-put-bytes
     slice-aggregate-put-bytes-2

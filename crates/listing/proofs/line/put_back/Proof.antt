@@ -1,79 +1,97 @@
 -- Assumes nothing.
-use Prim.Native.Nat.{_+_}
 use native.Mathlib.Omega.{arith}
-use mathlib.Core.List.{_++_}
-use mathlib.Core.Path.{_≡_, refl, _∙_}
-use lib.Dec.{lit≤}
+use mathlib.Core.Path.{_≡_, _∙_}
 use lib.ListN.{length}
 use denote.Ref.{now}
-use Rattle.isa.specs.Text.{ascii}
 use Rattle.isa.specs.Format.{fill}
-use Rattle.isa.proofs.Fills.{length-fill, filled-whole}
-use Rattle.encoding.specs.Bytes.{over}
+use Rattle.encoding.proofs.Written.{written-fits}
 use Rattle.listing.specs.Listing.{lineBack}
-use Rattle.listing.proofs.Lines.{text-length, columns, full}
+use Rattle.listing.proofs.Lines.{length-back}
 use borrow.Author.Needs.{needs}
 use Rattle.listing.proofs.line.put_back.Statement.{statement}
 use Rattle.listing.proofs.line.put_back.Tie as tie
 
-slice-aggregate-format : tie.Need-slice-aggregate-format
-slice-aggregate-format c = search needs
+digits-of-requires : tie.Need-digits-of-requires
+digits-of-requires c κs = search needs
 
-format-requires : tie.Need-format-requires
-format-requires c κs = search needs
+digits-of-requires-2 : tie.Need-digits-of-requires-2
+digits-of-requires-2 c κs = search needs
 
-put-column-requires : tie.Need-put-column-requires
-put-column-requires c κs =
-    let s = c .before .before .before .before .args in
-    let l : c .format .result .len ≡ length (fill (s .address) (ascii "; yz  ")) = text-length (fill (s .address) (ascii "; yz  ")) (filled-whole (s .address) (ascii "; yz  ") (lit≤ tt) (c .format .ensures)) in
-    let k : length (fill (s .address) (ascii "; yz  ")) ≡ 6 = length-fill (s .address) (ascii "; yz  ") in
-    (omega arith, omega arith, omega arith)
+array-read-back : tie.Need-array-read-back
+array-read-back c = search needs
 
-add-put-column : tie.Need-add-put-column
-add-put-column c = search needs
+array-write-back : tie.Need-array-write-back
+array-write-back c = search needs
 
-slice-aggregate-format-2 : tie.Need-slice-aggregate-format-2
-slice-aggregate-format-2 c = search needs
+array-read-back-2 : tie.Need-array-read-back-2
+array-read-back-2 c = search needs
 
-format-requires-2 : tie.Need-format-requires-2
-format-requires-2 c κs = search needs
+array-write-back-2 : tie.Need-array-write-back-2
+array-write-back-2 c = search needs
 
-put-column-requires-2 : tie.Need-put-column-requires-2
-put-column-requires-2 c κs =
-    let p = c .before .before .before .before .before in
-    let s = p .before .before .before .before .before .args in
-    let l : c .format2 .result .len ≡ length (fill (s .word) (ascii "Wxyz\n")) = text-length (fill (s .word) (ascii "Wxyz\n")) (filled-whole (s .word) (ascii "Wxyz\n") (lit≤ tt) (c .format2 .ensures)) in
-    let k : length (fill (s .word) (ascii "Wxyz\n")) ≡ 5 = length-fill (s .word) (ascii "Wxyz\n") in
-    (omega arith, omega arith, omega (arith, p .put-column .kept))
+array-read-back-3 : tie.Need-array-read-back-3
+array-read-back-3 c = search needs
+
+array-write-back-3 : tie.Need-array-write-back-3
+array-write-back-3 c = search needs
+
+array-read-back-4 : tie.Need-array-read-back-4
+array-read-back-4 c = search needs
+
+array-write-back-4 : tie.Need-array-write-back-4
+array-write-back-4 c = search needs
+
+array-read-back-5 : tie.Need-array-read-back-5
+array-read-back-5 c = search needs
+
+array-write-back-5 : tie.Need-array-write-back-5
+array-write-back-5 c = search needs
+
+array-read-back-6 : tie.Need-array-read-back-6
+array-read-back-6 c = search needs
+
+array-write-back-6 : tie.Need-array-write-back-6
+array-write-back-6 c = search needs
+
+slice-aggregate-put-bytes : tie.Need-slice-aggregate-put-bytes
+slice-aggregate-put-bytes c = search needs
+
+put-bytes-requires : tie.Need-put-bytes-requires
+put-bytes-requires c κs = search needs
 
 same-length : tie.Need-same-length
 same-length c = search needs
 
 returns : tie.Need-returns
-unfolding lineBack
+unfolding lineBack fill
 returns c =
-    let q = c .before .before in
-    let p = q .before .before .before .before .before .before in
-    let b = p .before .before .before .before .before in
+    let p = c .before .before in
+    let q = p .before .before .before .before .before in
+    let b = q .before .before .before in
     let s = b .args in
-    let xs = fill (s .address) (ascii "; yz  ") in
-    let ys = fill (s .word) (ascii "Wxyz\n") in
-    let k : length xs ≡ 6 = length-fill (s .address) (ascii "; yz  ") in
-    let l : length ys ≡ 5 = length-fill (s .word) (ascii "Wxyz\n") in
-    columns (now (s .out)) (s .at) 6 5 (s .at + 6) xs ys (omega arith) refl (omega (arith, b .pre))
-    (filled-whole (s .address) (ascii "; yz  ") (lit≤ tt) (p .before .format .ensures)) (filled-whole (s .word) (ascii "Wxyz\n") (lit≤ tt) (q .before .format2 .ensures)) (p .put-column .ensures) (q .put-column2 .ensures)
-    ∙ (λ i. over (now (s .out)) (s .at) (full 6 xs k i ++ full 5 ys l i))
+    let l : length (lineBack (s .address) (s .word)) ≡ 11 = length-back (s .address) (s .word) in
+    rw (q .before .digits-of .ensures, q .digits-of2 .ensures) at (p .put-bytes .ensures)
+    ∙ written-fits (now (s .out)) (s .at) (lineBack (s .address) (s .word)) (omega (arith, l, b .pre))
 
 pub put-back-spec : {M : Type 1} → statement M
 put-back-spec =
     tie.close
     (tie.spec
-    slice-aggregate-format
-    format-requires
-    put-column-requires
-    add-put-column
-    slice-aggregate-format-2
-    format-requires-2
-    put-column-requires-2
+    digits-of-requires
+    digits-of-requires-2
+    array-read-back
+    array-write-back
+    array-read-back-2
+    array-write-back-2
+    array-read-back-3
+    array-write-back-3
+    array-read-back-4
+    array-write-back-4
+    array-read-back-5
+    array-write-back-5
+    array-read-back-6
+    array-write-back-6
+    slice-aggregate-put-bytes
+    put-bytes-requires
     same-length
     returns)
