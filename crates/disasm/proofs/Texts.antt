@@ -127,7 +127,7 @@ module _ (t : Text) (digits d : List ℕ) (loose : Bool) where
   pub without-word : {r : ℕ} {o : List ℕ} → loose ≡ false → (r ≡ t .len) × (o ≡ written d 0 (t .bytes)) → Ended r o
   without-word e f = rw (e, written-none) (f .0 ∙ omega arith, f .1)
 
-  pub with-word : {r : ℕ} {b o : List ℕ} → loose ≡ true → b ≡ written (t .bytes) (t .len) (map (fillByte (digits)) (ascii " ; Wxyz"))
+  pub with-word : {r : ℕ} {b o : List ℕ} → loose ≡ true → b ≡ written (t .bytes) (t .len) (map (fillByte digits) (ascii " ; Wxyz"))
       → (r ≡ t .len + 7) × (o ≡ written d 0 b) → Ended r o
   with-word e g f = rw e (f .0, f .1 ∙ ap (written d 0) g)
 
