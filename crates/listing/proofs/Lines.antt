@@ -3,18 +3,20 @@
 use Prim.Native.Nat.{ℕ, zero, suc, _+_, _-_, _≤_, _<_}
 use Prim.Native.Char.{code}
 use native.Mathlib.Omega.{arith}
-use mathlib.Core.Bool.{Bool, true, false, cond}
+use mathlib.Core.Bool.{Bool, true, false, cond, not}
 use mathlib.Core.Path.{_≡_, refl, sym, ap, _∙_}
 use mathlib.Core.List.{List, [], _∷_, _++_}
 use borrow.Author.Tests.{eqb-true, eqb-false, ne-eqb}
 use lib.Dec.{eqb, ltb, lit≤}
 use lib.ListN.{length, getD, take, set, replicate, length-append, length-replicate, length-set, getD-replicate}
 use lib.Seq.{take-all, length-take-le, getD-set-same, getD-set-other}
+use Rattle.isa.specs.declared.opcode.Opcode.{Opcode}
 use Rattle.isa.specs.declared.opcode.Decoded.{Decoded}
 use Rattle.isa.specs.declared.opcode.Decoded.the-variants.{Known, Unknown}
 use Rattle.isa.specs.declared.text.Text.{Text}
 use Rattle.isa.specs.Text.{ascii, spaced, text, textOf}
 use Rattle.isa.specs.Word.{byteYZ, decodeWord}
+use Rattle.isa.specs.Nibbles.{unusedOf, unused, unusedNibbles}
 use Rattle.isa.specs.Format.{fill}
 use Rattle.isa.proofs.Texts.{textOf-text, take-replicate}
 use Rattle.isa.proofs.Fills.{length-fill}
@@ -24,7 +26,7 @@ use Rattle.disasm.specs.Disassembly.{disassembleText}
 use Rattle.disasm.proofs.Texts.{known-short}
 use Rattle.listing.specs.declared.labels.Reference.{Reference}
 use Rattle.listing.specs.declared.labels.Reference.the-variants.{Loads, Stores, Jumps, None}
-use Rattle.listing.specs.Listing.{listingWords, referenceOf, refers, refersTo, referenced, labelled, otherBy, otherText}
+use Rattle.listing.specs.Listing.{listingWords, referenceOf, refers, refersTo, referenced, labelled, listedAs, otherBy, otherText}
 use Rattle.listing.specs.Listing.{referenceText, listingText, labelText, lineFront, lineBack, line, lineOf}
 
 -- ---- labels
@@ -78,14 +80,28 @@ module _ (t : List Bool) (xs : List ℕ) (w : ℕ) (h : Labels t xs) (l : length
 
 -- ---- the text of a word
 
+-- a word without a digit too many is listed as what it decodes to, and each other one as data
+pub listed-as : (w : ℕ) (d : Decoded) → decodeWord w ≡ d → unusedNibbles w ≡ 0 → listedAs w ≡ d
+listed-as w d e u = rw u e
+
+pub listed-data : (w : ℕ) → (unusedNibbles w ≡ 0 → ⊥) → listedAs w ≡ Unknown
+listed-data w u = rw (ne-eqb (unusedNibbles w) 0 u)
+
+pub listed-known : (w : ℕ) (o : Opcode) → listedAs w ≡ Known o → (decodeWord w ≡ Known o) × (unusedOf o w ≡ 0)
+listed-known w o e = go (eqb (unusedNibbles w) 0) refl e
+  where
+    go : (v : Bool) → eqb (unusedNibbles w) 0 ≡ v → cond (not v) Unknown (decodeWord w) ≡ Known o → (decodeWord w ≡ Known o) × (unusedOf o w ≡ 0)
+    go true q k = (k, ap (λ (d : Decoded). unused d w) (sym k) ∙ eqb-true (unusedNibbles w) 0 q)
+    go false q k = let z : _≡_ {A = ℕ} 0 1 = cc in absurd (omega arith)
+
 -- a text has at most 26 bytes, so its column holds it
 other-short : (w : ℕ) → length (otherText w) ≤ 26
 unfolding otherText
-other-short w = go (decodeWord w) refl
+other-short w = go (listedAs w) refl
   where
-    go : (d : Decoded) → decodeWord w ≡ d → length (otherBy d w) ≤ 26
+    go : (d : Decoded) → listedAs w ≡ d → length (otherBy d w) ≤ 26
     go Unknown e = rw length-fill (lit≤ tt)
-    go (Known o) e = let s : length (disassembleText w) ≤ 18 = known-short w o e in omega arith
+    go (Known o) e = let s : length (disassembleText w) ≤ 18 = known-short w o (listed-known w o e .0) in omega arith
 
 reference-short : (b : Bool) (k : Reference) (w : ℕ) → length (referenceText b k w) ≤ 26
 reference-short true Loads w = rw length-fill (lit≤ tt)
@@ -108,7 +124,7 @@ listed n w b k e f g =
     let s : length (referenceText b k w) ≤ 26 = reference-short b k w in
     g ∙ ap text (take-all 32 (referenceText b k w) (omega arith)) ∙ (λ i. text (referenceText (sym e i) (sym f i) w))
 
-pub othered : (w : ℕ) (d : Decoded) {r : Text} → decodeWord w ≡ d → r ≡ text (otherBy d w) → r ≡ text (otherText w)
+pub othered : (w : ℕ) (d : Decoded) {r : Text} → listedAs w ≡ d → r ≡ text (otherBy d w) → r ≡ text (otherText w)
 unfolding otherText
 othered w d e f = f ∙ ap (λ (c : Decoded). text (otherBy c w)) (sym e)
 

@@ -1,4 +1,4 @@
--- The listing of a program image (01, section 7; disasm.rs, `disassemble_image`; 02, Change 1): a head, then a line of 45 bytes for each word.
+-- The listing of a program image (01, section 7; disasm.rs, `disassemble_image`; 02, Change 4): a head, then a line of 45 bytes for each word.
 -- Assumes nothing.
 use Prim.Native.Nat.{ℕ, _+_, _*_, _/_, _%_}
 use mathlib.Core.Bool.{Bool, true, false, cond}
@@ -11,6 +11,7 @@ use Rattle.isa.specs.declared.opcode.Decoded.{Decoded}
 use Rattle.isa.specs.declared.opcode.Decoded.the-variants.{Known, Unknown}
 use Rattle.isa.specs.Text.{ascii, spaced}
 use Rattle.isa.specs.Word.{byteYZ, decodeWord}
+use Rattle.isa.specs.Nibbles.{loose}
 use Rattle.isa.specs.Format.{fill, decimal}
 use Rattle.encoding.specs.Bytes.{over, eachFrom, numbers}
 use Rattle.encoding.specs.Answer.{Outcome, outcome, Told, unlessRefused}
@@ -63,13 +64,17 @@ referenced (w ∷ ws) a = cond (refersTo w a) true (referenced ws a)
 unfoldable pub labelled : List ℕ → ℕ → Bool
 labelled ws a = cond (eqb a 0) true (referenced ws a)
 
--- the text of a word that refers to no address: its disassembly as it is, and a word without an opcode is data
+-- what a word is listed as: a loose one is data, as one without an opcode is (02, Change 4)
+abbrev pub listedAs : ℕ → Decoded
+listedAs w = cond (loose w) Unknown (decodeWord w)
+
+-- the text of a word that refers to no address: data, or its disassembly as it is
 abbrev pub otherBy : Decoded → ℕ → List ℕ
 otherBy Unknown w = fill w (ascii ".word Wxyz")
 otherBy (Known o) w = disassembleText w
 
 unfoldable pub otherText : ℕ → List ℕ
-otherText w = otherBy (decodeWord w) w
+otherText w = otherBy (listedAs w) w
 
 -- the text of a word, by how it refers to an address: a reference inside the image is a label
 abbrev pub referenceText : Bool → Reference → ℕ → List ℕ

@@ -17,11 +17,16 @@ use isa::Text;
 use isa::digits_of;
 use isa::format;
 
-// The text of a word that refers to no address.
+// The text of a word that refers to no address. A loose word is data: its instruction alone would be
+// assembled to another word.
 fn other_text(word: u16) -> Text
     ensures { λ r. ⌜ r ≡ text (otherText word) ⌝ }
 {
-    let Decoded::Known(_) = Instruction::from_word(word).opcode() else {
+    let i = Instruction::from_word(word);
+    if i.unused_nibbles() != 0 {
+        return format(b".word Wxyz", word);
+    }
+    let Decoded::Known(_) = i.opcode() else {
         return format(b".word Wxyz", word);
     };
     disassemble(word)

@@ -1,0 +1,240 @@
+-- The answer from what is collected: every word of the image has 16 bits.
+-- Assumes nothing.
+use Prim.Native.Nat.{ℕ, zero, suc, _+_, _*_, _-_, _≤_, _<_}
+use native.Mathlib.Omega.{arith}
+use native.Mathlib.Nat.{mul-le-mul-left}
+use mathlib.Core.Path.{_≡_, refl, sym, ap, _∙_}
+use mathlib.Core.Bool.{Bool, true, false, cond}
+use mathlib.Core.List.{List, [], _∷_, _++_, map}
+use borrow.Author.Tests.{ne-eqb, ltb-true, eqb-true, lt-ltb, le-ltb, eqb-false}
+use lib.Dec.{eqb, ltb}
+use lib.ListN.{length, getD, take, drop, replicate, length-take, length-append, length-replicate}
+use lib.Seq.{take-append-seam}
+use Rattle.isa.specs.Text.{padded}
+use Rattle.assemble.specs.Grammar.{Token, letter, blank, digit, name, forms, formAt, counted, referred, Digits, Instruction}
+use Rattle.assemble.specs.Lines.{Line, bad, empty, word, readLine}
+use Rattle.assemble.specs.Assembly.{lines, wordsOf, labelsOf, refersOf, Accepted, faulty, key, doubled, missing, unless, labelRefusal, linesRefusal, refusal, placed, resolved, resolveAll, linesImage, image}
+use Rattle.assemble.specs.Reading.{linesFrom, Held, Linkable, resolvedAs, linked}
+use Rattle.encoding.specs.Bytes.{over, bigEndians, written}
+use Rattle.encoding.proofs.Numbers.{length-bigEndians}
+use Rattle.encoding.proofs.Written.{written-fits}
+use Rattle.listing.specs.Listing.{listingOf}
+use Rattle.encoding.specs.Answer.{Outcome, outcome}
+use Rattle.assemble.specs.Answer.{answered, assembled, imageBytes, bytesRefusal, bytesOutcome}
+use Rattle.assemble.specs.declared.Assembled.{Assembled}
+use Rattle.assemble.specs.declared.Built.{Built}
+use Rattle.assemble.specs.declared.Built.the-variants.{Written, Refused}
+use Rattle.assemble.proofs.Scans.{rest-digits}
+use Rattle.isa.proofs.Truths.{below, tested}
+use Rattle.assemble.proofs.Exact.{word-line-exact}
+use Rattle.assemble.proofs.Texts.{served-accepted, accepted-served, accepted-image}
+use Rattle.assemble.proofs.RoundTrip.{round-trip}
+use Rattle.assemble.proofs.Linking.{answered-refused, length-resolved}
+
+-- ---- how large a word is
+
+-- what the address of a label can add
+abbrev spare : ℕ → ℕ
+spare k = cond (eqb k 0) 0 256
+
+spare-most : (k : ℕ) → spare k ≤ 256
+spare-most k = go (eqb k 0)
+  where
+    go : (v : Bool) → cond v 0 256 ≤ 256
+    go true = omega arith
+    go false = omega arith
+
+-- what the digits and the label of a form can add
+unfoldable heft : List Token → ℕ
+heft [] = 0
+heft (letter c ∷ t) = heft t
+heft (blank ∷ t) = heft t
+heft (digit k ∷ t) = k * 15 + heft t
+heft (name ∷ t) = 256 + heft t
+
+counted-most : (t : List Token) (ds l r : List ℕ) (w : ℕ) → Digits ds → counted t ds w + spare (key (referred t l r)) ≤ w + spare (key r) + heft t
+unfolding counted referred heft
+counted-most [] ds l r w h = omega arith
+counted-most (letter c ∷ t) ds l r w h = counted-most t ds l r w h
+counted-most (blank ∷ t) ds l r w h = counted-most t ds l r w h
+counted-most (digit k ∷ t) ds l r w h =
+    let i = counted-most t (drop 1 ds) l r (w + k * getD ds 0 0) (rest-digits ds h) in
+    let m : k * getD ds 0 0 ≤ k * 15 = mul-le-mul-left k (omega (arith, h 0)) in
+    omega arith
+counted-most (name ∷ t) ds l r w h =
+    let i = counted-most t ds l l w h in
+    let m = spare-most (key l) in
+    omega arith
+
+light : ℕ → Bool
+light f = ltb (formAt forms f .base + heft (formAt forms f .pattern)) 65536
+
+all-light : below light 17 ≡ true
+unfolding forms heft light
+all-light = refl
+
+form-light : (f : ℕ) → f < 17 → formAt forms f .base + heft (formAt forms f .pattern) < 65536
+unfolding light
+form-light f h = ltb-true (formAt forms f .base + heft (formAt forms f .pattern)) 65536 (tested light 17 all-light f h)
+
+instruction-small : (s : List ℕ) (w : ℕ) (r : List ℕ) → Instruction s w r → w + spare (key r) < 65536
+unfolding key forms
+instruction-small s w r i =
+    let f = formAt forms (i .which) in
+    let m = counted-most (f .pattern) (i .fits .digits) (i .fits .label) [] (f .base) (i .fits .hexadecimal) in
+    let l = form-light (i .which) (i .known) in
+    rw (i .fits .word, i .fits .refers) (omega (arith, m, l))
+
+read-small : (s l : List ℕ) (w : ℕ) (r : List ℕ) → readLine s ≡ word l w r → w + spare (key r) < 65536
+read-small s l w r e = let x = word-line-exact s l w r .0 e in instruction-small (x .body) w r (x .instructs)
+
+lines-small : (ss : List (List ℕ)) (i : ℕ) → getD (wordsOf (map readLine ss)) i 0 + spare (getD (map key (refersOf (map readLine ss))) i 0) < 65536
+lines-small [] i = omega arith
+lines-small (s ∷ ss) i = go (readLine s) refl i (lines-small ss)
+  where
+    go : (l : Line) → readLine s ≡ l → (i : ℕ) → ((i : ℕ) → getD (wordsOf (map readLine ss)) i 0 + spare (getD (map key (refersOf (map readLine ss))) i 0) < 65536)
+        → getD (wordsOf (l ∷ map readLine ss)) i 0 + spare (getD (map key (refersOf (l ∷ map readLine ss))) i 0) < 65536
+    go bad e i f = f i
+    go empty e i f = f i
+    go (word l w r) e zero f = read-small s l w r e
+    go (word l w r) e (suc i) f = f i
+
+placed-most : (k : ℕ) (xs : List ℕ) → placed k xs ≤ length xs
+unfolding placed
+placed-most k [] = omega arith
+placed-most k (x ∷ xs) = go (eqb x k) (placed-most k xs)
+  where
+    go : (v : Bool) → placed k xs ≤ length xs → cond v 0 (suc (placed k xs)) ≤ suc (length xs)
+    go true h = omega arith
+    go false h = omega arith
+
+resolved-small : (ks : List ℕ) (w r : ℕ) → length ks ≤ 256 → w + spare r < 65536 → resolved ks w r < 65536
+resolved-small ks w r h = go (eqb r 0)
+  where
+    go : (v : Bool) → w + cond v 0 256 < 65536 → w + cond v 0 (placed r ks) < 65536
+    go true k = k
+    go false k = omega (arith, placed-most r ks)
+
+even-lines : (ls : List Line) → (length (map key (refersOf ls)) ≡ length (wordsOf ls)) × (length (map key (labelsOf ls)) ≡ length (wordsOf ls))
+even-lines [] = (refl, refl)
+even-lines (bad ∷ ls) = even-lines ls
+even-lines (empty ∷ ls) = even-lines ls
+even-lines (word l w r ∷ ls) = let k = even-lines ls in (ap suc (k .0), ap suc (k .1))
+
+-- ---- the answer
+
+module _ (t : List ℕ) (n : ℕ) (ws ks rs : List ℕ) (h : Held (linesFrom t 0) n ws ks rs) where
+  pub held-linkable : Linkable (take n ws) (take n ks) (take n rs)
+  held-linkable =
+      let ls = linesFrom t 0 in
+      let v = even-lines ls in
+      let m : length (wordsOf ls) ≤ 256 = rw (← h .words, length-take) (omega (arith, h .few)) in
+      rw (h .words, h .labels, h .refers) (record {
+        few = m;
+        even = v .0;
+        small = λ i g. resolved-small (map key (labelsOf ls)) (getD (wordsOf ls) i 0) (getD (map key (refersOf ls)) i 0) (omega (arith, v .1, m)) (lines-small (lines t) i);
+      })
+
+  pub held-answer : 0 ≡ faulty 0 (linesFrom t 0) → linked (take n ws) (take n ks) (take n rs) ≡ assembled t
+  unfolding linked assembled refusal linesRefusal image linesImage
+  held-answer e = rw (h .words, h .labels, h .refers, ← e)
+
+unless-some : (a b : ℕ) → (a ≡ 0 → ⊥) → unless a b ≡ a
+unless-some zero b n = absurd (n refl)
+unless-some (suc a) b n = refl
+
+pub fault-answer : (t : List ℕ) (r : ℕ) → r ≡ faulty 0 (linesFrom t 0) → (r ≡ 0 → ⊥) → answered r [] ≡ assembled t
+unfolding assembled refusal linesRefusal
+fault-answer t r e n =
+    let ls = linesFrom t 0 in
+    let z : unless (faulty 0 ls) (labelRefusal (map key (labelsOf ls)) (map key (refersOf ls))) ≡ r = unless-some (faulty 0 ls) _ (λ q. n (e ∙ q)) ∙ sym e in
+    answered-refused r (image t) n ∙ ap (λ (x : ℕ). answered x (image t)) (sym z)
+
+module _ (ws ks rs : List ℕ) where
+  pub linked-doubled : doubled ks ≡ true → answered 12 [] ≡ linked ws ks rs
+  unfolding linked
+  linked-doubled e = rw e (answered-refused 12 (resolveAll ks ws rs) (λ q. omega (arith, q)))
+
+  pub linked-once : doubled ks ≡ false → resolvedAs ws ks rs ≡ linked ws ks rs
+  unfolding linked resolvedAs
+  linked-once e = rw e
+
+
+-- ---- what a caller reads off the answer
+
+pub image-few : (t : List ℕ) → refusal t ≡ 0 → length (image t) ≤ 256
+unfolding image linesImage
+image-few t e =
+    let ls : List Line = map readLine (lines t) in
+    let f = served-accepted t e .few in
+    rw (length-resolved (map key (labelsOf ls)) (wordsOf ls) (map key (refersOf ls)) (even-lines ls .0)) f
+
+-- the answer a has the words of an accepted text's image in front
+module _ (t : List ℕ) (a : Assembled) (e : a ≡ assembled t) where
+  pub told-refused : a .refused ≡ refusal t
+  unfolding assembled answered
+  told-refused = ap (λ (x : Assembled). x .refused) e
+
+  pub told-count : a .refused ≡ 0 → a .count ≡ length (image t)
+  unfolding assembled answered
+  told-count z = ap (λ (x : Assembled). x .count) e ∙ rw (sym told-refused ∙ z)
+
+  pub told-length : length (a .words) ≡ 256
+  unfolding assembled answered padded
+  told-length = ap (λ (x : Assembled). length (x .words)) e ∙ go (eqb (refusal t) 0) refl
+    where
+      go : (v : Bool) → eqb (refusal t) 0 ≡ v → length (cond v (image t) [] ++ replicate (256 - length (cond v (image t) [])) 0) ≡ 256
+      go true q = let f = image-few t (eqb-true (refusal t) 0 q) in rw (length-append, length-replicate) (omega arith)
+      go false q = refl
+
+  pub told-few : a .refused ≡ 0 → a .count ≤ 256
+  told-few z = rw (told-count z) (image-few t (sym told-refused ∙ z))
+
+  pub told-image : a .refused ≡ 0 → take (a .count) (a .words) ≡ image t
+  unfolding assembled answered padded
+  told-image z =
+      let q : refusal t ≡ 0 = sym told-refused ∙ z in
+      let w : a .words ≡ image t ++ replicate (256 - length (image t)) 0 = ap (λ (x : Assembled). x .words) e ∙ rw q in
+      rw (told-count z, w) (take-append-seam (image t) (replicate (256 - length (image t)) 0))
+
+-- ---- the answer of assembling into a buffer
+
+module _ (t out : List ℕ) where
+  pub bytes-refused : (r : ℕ) → r ≡ refusal t → (r ≡ 0 → ⊥) → outcome (Refused r) out ≡ bytesOutcome t out
+  unfolding bytesOutcome
+  bytes-refused r e n = rw (← e, ne-eqb r 0 n) (rw (ne-eqb r 0 n))
+
+  pub bytes-short : refusal t ≡ 0 → length out < 2 * length (image t) → outcome (Refused 5) out ≡ bytesOutcome t out
+  unfolding bytesOutcome
+  bytes-short z h = rw (z, lt-ltb (length out) (2 * length (image t)) h)
+
+  pub bytes-written : refusal t ≡ 0 → 2 * length (image t) ≤ length out → outcome (Written (2 * length (image t))) (written out 0 (imageBytes t)) ≡ bytesOutcome t out
+  unfolding bytesOutcome
+  bytes-written z h = rw (z, le-ltb (length out) (2 * length (image t)) h, written-fits out 0 (imageBytes t) (rw length-bigEndians (omega arith)))
+
+-- ---- texts that are accepted, and listings
+
+pub accepted-answer : (t : List ℕ) (ls : List Line) → Accepted t ls → assembled t ≡ answered 0 (linesImage ls)
+unfolding assembled
+accepted-answer t ls a = rw (accepted-served t ls a .0, accepted-image t ls a)
+
+-- the listing of an image is assembled to that image
+pub listing-answer : (ws : List ℕ) → length ws ≤ 256 → ((a : ℕ) → getD ws a 0 < 65536) → assembled (listingOf ws) ≡ answered 0 ws
+unfolding assembled
+listing-answer ws h b = let r = round-trip ws h b in rw (r .0, r .1)
+
+-- a length that is answered is at most that of 256 words
+pub bytes-at-most : (t out : List ℕ) {n : ℕ} → bytesOutcome t out .answer ≡ Written n → n ≤ 512
+unfolding bytesOutcome
+bytes-at-most t out {n} h = go (eqb (refusal t) 0) refl (ltb (length out) (2 * length (image t))) h
+  where
+    call : ℕ → Built
+    call r = cond (eqb r 0) (outcome (Written (2 * length (image t))) (over out 0 (imageBytes t))) (outcome (Refused r) out) .answer
+
+    go : (v : Bool) → eqb (refusal t) 0 ≡ v → (u : Bool) → call (cond v (cond u 5 0) (refusal t)) ≡ Written n → n ≤ 512
+    go true q true e = let y : _≡_ {A = ℕ} 0 1 = cc in absurd (omega arith)
+    go true q false e =
+        let f = image-few t (eqb-true (refusal t) 0 q) in
+        let y : 2 * length (image t) ≡ n = cc in
+        omega arith
+    go false q u e = let y : _≡_ {A = ℕ} 0 1 = cc in absurd (omega arith)

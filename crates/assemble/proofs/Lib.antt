@@ -1,0 +1,11 @@
+pub mod Scans
+pub mod Instructions
+pub mod Exact
+pub mod Texts
+pub mod Refusals
+pub mod Listed
+pub mod RoundTrip
+pub mod Steps
+pub mod Rows
+pub mod Linking
+pub mod Answers

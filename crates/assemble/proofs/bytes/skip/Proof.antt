@@ -1,0 +1,67 @@
+-- The invariant: what is passed over, with what still passes, is what passes from `at` on.
+-- Assumes nothing.
+use Prim.Native.Nat.{_-_}
+use native.Mathlib.Omega.{arith}
+use denote.Ref.{now}
+use mathlib.Core.Path.{sym, _∙_}
+use borrow.Author.Tests.{not-true, not-false}
+use lib.ListN.{length}
+use Rattle.assemble.specs.Reading.{passing}
+use Rattle.assemble.proofs.Steps.{Passing, pass-first, pass-more, pass-stop, pass-end}
+use borrow.Author.Needs.{needs}
+use Rattle.assemble.proofs.bytes.skip.Statement.{statement}
+use Rattle.assemble.proofs.bytes.skip.Tie as tie
+
+abbrev Inv-loop : tie.InvT-loop
+Inv-loop kind s at i₀ i = Passing (passing kind) s at i
+
+abbrev μ-loop : tie.MeasureT-loop
+μ-loop kind s at i₀ i = length s - i
+
+loop-holds : tie.Need-loop-holds Inv-loop μ-loop
+loop-holds c = pass-first (passing (c .before .args .kind)) (now (c .before .args .s)) (c .before .args .at) (c .before .pre)
+
+shared-slice-read-passes : tie.Need-shared-slice-read-passes Inv-loop μ-loop
+shared-slice-read-passes c = omega arith
+
+passes-requires : tie.Need-passes-requires Inv-loop μ-loop
+passes-requires c κs = search needs
+
+returns : tie.Need-returns Inv-loop μ-loop
+returns c =
+    let l = c .before .before .before .before in
+    let a = l .before .before .args in
+    pass-stop (a .kind) (now (a .s)) (a .at) (l .loop .i) (omega arith) (sym (c .before .passes .ensures) ∙ not-true (c .before .passes .result) (c .if1 .taken)) (l .loop .inv)
+
+add-i : tie.Need-add-i Inv-loop μ-loop
+add-i c = omega arith
+
+loop-less : tie.Need-loop-less Inv-loop μ-loop
+loop-less c = omega arith
+
+loop-again : tie.Need-loop-again Inv-loop μ-loop
+loop-again c =
+    let l = c .before .before .before .before in
+    let a = l .before .before .args in
+    pass-more (passing (a .kind)) (now (a .s)) (a .at) (l .loop .i) (omega arith) (sym (c .before .passes .ensures) ∙ not-false (c .before .passes .result) (c .if1 .left)) (l .loop .inv)
+
+returns-2 : tie.Need-returns-2 Inv-loop μ-loop
+returns-2 c =
+    let l = c .before in
+    let a = l .before .before .args in
+    pass-end (a .kind) (now (a .s)) (a .at) (l .loop .i) (omega arith) (l .loop .inv)
+
+pub skip-spec : {M : Type 1} → statement M
+skip-spec =
+    tie.close
+    (tie.spec
+    Inv-loop
+    μ-loop
+    loop-holds
+    shared-slice-read-passes
+    passes-requires
+    returns
+    add-i
+    loop-less
+    loop-again
+    returns-2)
