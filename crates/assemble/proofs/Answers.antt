@@ -20,7 +20,7 @@ use Rattle.encoding.proofs.Numbers.{length-bigEndians}
 use Rattle.encoding.proofs.Written.{written-fits}
 use Rattle.listing.specs.Listing.{listingOf}
 use Rattle.encoding.specs.Answer.{Outcome, outcome}
-use Rattle.assemble.specs.Answer.{answered, assembled, imageBytes, bytesRefusal, bytesOutcome}
+use Rattle.assemble.specs.Answer.{answered, assembled, imageBytes, unlessRefused, bytesOutcome}
 use Rattle.assemble.specs.declared.Assembled.{Assembled}
 use Rattle.assemble.specs.declared.Built.{Built}
 use Rattle.assemble.specs.declared.Built.the-variants.{Written, Refused}
@@ -202,7 +202,8 @@ module _ (t : List ℕ) (a : Assembled) (e : a ≡ assembled t) where
 module _ (t out : List ℕ) where
   pub bytes-refused : (r : ℕ) → r ≡ refusal t → (r ≡ 0 → ⊥) → outcome (Refused r) out ≡ bytesOutcome t out
   unfolding bytesOutcome
-  bytes-refused r e n = rw (← e, ne-eqb r 0 n) (rw (ne-eqb r 0 n))
+  bytes-refused zero e n = absurd (n refl)
+  bytes-refused (suc r) e n = rw (← e, ne-eqb (suc r) 0 n)
 
   pub bytes-short : refusal t ≡ 0 → length out < 2 * length (image t) → outcome (Refused 5) out ≡ bytesOutcome t out
   unfolding bytesOutcome
@@ -228,13 +229,17 @@ pub bytes-at-most : (t out : List ℕ) {n : ℕ} → bytesOutcome t out .answer 
 unfolding bytesOutcome
 bytes-at-most t out {n} h = go (eqb (refusal t) 0) refl (ltb (length out) (2 * length (image t))) h
   where
-    call : ℕ → Built
-    call r = cond (eqb r 0) (outcome (Written (2 * length (image t))) (over out 0 (imageBytes t))) (outcome (Refused r) out) .answer
+    call : ℕ → Outcome Built
+    call r = unlessRefused r out (outcome (Written (2 * length (image t))) (over out 0 (imageBytes t)))
 
-    go : (v : Bool) → eqb (refusal t) 0 ≡ v → (u : Bool) → call (cond v (cond u 5 0) (refusal t)) ≡ Written n → n ≤ 512
+    never : (r : ℕ) → (r ≡ 0 → ⊥) → call r .answer ≡ Written n → n ≤ 512
+    never zero z e = absurd (z refl)
+    never (suc r) z e = let y : _≡_ {A = ℕ} 0 1 = cc in absurd (omega arith)
+
+    go : (v : Bool) → eqb (refusal t) 0 ≡ v → (u : Bool) → call (cond v (cond u 5 0) (refusal t)) .answer ≡ Written n → n ≤ 512
     go true q true e = let y : _≡_ {A = ℕ} 0 1 = cc in absurd (omega arith)
     go true q false e =
         let f = image-few t (eqb-true (refusal t) 0 q) in
         let y : 2 * length (image t) ≡ n = cc in
         omega arith
-    go false q u e = let y : _≡_ {A = ℕ} 0 1 = cc in absurd (omega arith)
+    go false q u e = never (refusal t) (eqb-false (refusal t) 0 q) e

@@ -1,13 +1,13 @@
 -- What the assembler's calls answer (02, Change 4; the numbers as in 01, section 1).
 -- Assumes nothing.
-use Prim.Native.Nat.{ℕ, _*_}
+use Prim.Native.Nat.{ℕ, zero, suc, _*_}
 use mathlib.Core.Bool.{cond}
 use mathlib.Core.List.{List, []}
 use lib.Dec.{eqb, ltb}
 use lib.ListN.{length}
 use Rattle.isa.specs.Text.{padded}
 use Rattle.encoding.specs.Bytes.{over, bigEndians}
-use Rattle.encoding.specs.Answer.{Outcome, outcome}
+use Rattle.encoding.specs.Answer.{Outcome, outcome, Told}
 use Rattle.listing.specs.Listing.{listingWords}
 use Rattle.assemble.specs.Assembly.{refusal, image}
 use Rattle.assemble.specs.declared.Assembled.{Assembled}
@@ -34,8 +34,16 @@ imageBytes t = bigEndians 2 (image t)
 abbrev pub bytesRefusal : List ℕ → ℕ → ℕ
 bytesRefusal t room = cond (eqb (refusal t) 0) (cond (ltb room (2 * length (image t))) 5 0) (refusal t)
 
--- they stand at the start of the buffer, and what stands behind them is kept; refused, the buffer is kept
+-- the number of the refusal alone, and the buffer as it was; where there is none, the second
+abbrev pub unlessRefused : ℕ → List ℕ → Outcome Built → Outcome Built
+unlessRefused zero out o = o
+unlessRefused (suc n) out o = outcome (Refused (suc n)) out
+
+-- the bytes stand at the start of the buffer, and what stands behind them is kept
 unfoldable pub bytesOutcome : List ℕ → List ℕ → Outcome Built
-bytesOutcome t out =
-    cond (eqb (bytesRefusal t (length out)) 0) (outcome (Written (2 * length (image t))) (over out 0 (imageBytes t)))
-    (outcome (Refused (bytesRefusal t (length out))) out)
+bytesOutcome t out = unlessRefused (bytesRefusal t (length out)) out (outcome (Written (2 * length (image t))) (over out 0 (imageBytes t)))
+
+-- what a call answers by 01's number (its last paragraph)
+abbrev pub told : Built → Told
+told (Written n) = record { refused = 0; length = n }
+told (Refused n) = record { refused = n; length = 0 }

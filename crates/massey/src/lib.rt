@@ -2,7 +2,9 @@
 // or minus the refusal's number, and lays no condition on its caller.
 ghost use mathlib.Core.Path.{_≡_};
 ghost use Rattle.encoding.specs.Answer.{outcome};
-ghost use Rattle.massey.specs.Calls.{disassembleOutcome, listingOutcome, reportedOutcome};
+ghost use Rattle.massey.specs.Calls.{disassembleOutcome, listingOutcome, assembledOutcome, reportedOutcome};
+use assemble::Built;
+use assemble::assemble_bytes;
 use disasm::disassemble_into;
 use isa::TEXT_WIDTH;
 use listing::Listed;
@@ -30,6 +32,18 @@ pub extern "C" fn massey_listing(image: &[u8], out: &mut [u8]) -> i64
     match listed {
         Listed::Written(n) => n as i64,
         Listed::Refused(n) => 0 - n as i64,
+    }
+}
+
+// The image of a text, its words high byte first.
+#[no_mangle]
+pub extern "C" fn massey_assemble(text: &[u8], out: &mut [u8]) -> i64
+    ensures { λ r. ⌜ outcome r (now (out .exit)) ≡ assembledOutcome (now (text .entry)) (now (out .entry)) ⌝ }
+{
+    let built = assemble_bytes(text, out);
+    match built {
+        Built::Written(n) => n as i64,
+        Built::Refused(n) => 0 - n as i64,
     }
 }
 

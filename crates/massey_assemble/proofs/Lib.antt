@@ -1,0 +1,2 @@
+-- `Answers` has the laws of `specs/Answer.antt`.
+pub mod Answers
