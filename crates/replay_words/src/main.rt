@@ -1,11 +1,12 @@
-// Replays a list of records on words, listings, plans and single ticks from standard input. Each
-// has a question and the answer that the original in Rust gave, and passes where the port gives the
+// Replays a list of records on words, listings, source texts, plans and single ticks from standard
+// input. Each has a question and the answer that the oracle gave, and passes where the port gives the
 // same. What is written is one line: how many passed and how many failed.
 mod listings;
 mod micro;
 mod opcode;
 mod plans;
 mod record;
+mod source;
 mod state;
 mod text;
 mod word;
@@ -42,6 +43,7 @@ fn passes(record: &[u8]) -> bool {
         b'H' => text::hex_passes(record),
         b'P' => text::name_passes(record),
         b'L' => listings::passes(record),
+        b'S' => source::passes(record),
         b'T' => plans::word_passes(record),
         b'F' => plans::phase_passes(record),
         b'U' => plans::operation_passes(record),
