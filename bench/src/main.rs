@@ -1,7 +1,10 @@
 //! Times the port's archive against the original, both in one run, and prints
 //! a table. Lent buffers are used again and again and never cleared between
 //! calls; the original makes a new `String` each time, as its callers get it.
+//! Where the original has no such call, the first column has what the row's name
+//! or its part here says: plain Rust, or another call of the port.
 
+mod assembly;
 mod history;
 mod machine;
 mod report;
@@ -39,6 +42,29 @@ fn main() {
         disassembling(&sets),
     );
     row("listing of 256 words", "none", listing(&sets));
+    assembly::agree(&sets);
+    // The original has no assembler: the first column is plain Rust, and in the
+    // last of these rows it is the port's own listing.
+    row(
+        "assembling the listing of 256 words",
+        "2",
+        assembly::assembling(&sets),
+    );
+    row(
+        "the same, 256 jumps to 256 labels",
+        "2",
+        assembly::assembling(&assembly::jumps()),
+    );
+    row(
+        "the same, `.word` alone",
+        "2",
+        assembly::assembling(&assembly::data()),
+    );
+    row(
+        "assembling, to the port's own listing of the same words",
+        "10",
+        assembly::to_the_listing(&sets),
+    );
     let programs = machine::programs();
     machine::agree(&programs);
     for call in &machine::CALLS_TIMED {

@@ -22,7 +22,8 @@ pub fn dense(random: &mut Random, words: usize) -> Vec<u16> {
 }
 
 /// Words of the opcodes that do not use all digits, with such a digit that is
-/// not 0 and without: the texts of the first end in the word.
+/// not 0 and without: the texts of the first end in the word, and in a listing
+/// they are `.word`.
 pub const PARTLY_USED: [u16; 12] = [
     0x2F12, 0x2012, 0x2100, 0xEABC, 0xE000, 0xE001, 0xE010, 0xE100, 0x7011, 0x7010, 0x7001, 0x7100,
 ];

@@ -6,6 +6,7 @@
 // The original says `use crate::isa`, so its files must be modules right here.
 include!(concat!(env!("OUT_DIR"), "/original.rs"));
 
+pub mod assembly;
 pub mod calls;
 pub mod codes;
 pub mod countdowns;

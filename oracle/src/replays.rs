@@ -1,5 +1,6 @@
 //! The port's programs that replay lists, each with its lists.
 
+use crate::assembly;
 use crate::readings;
 use crate::record::Record;
 use crate::words::{text_lists, tick_lists};
@@ -22,12 +23,30 @@ pub struct Replay {
 pub const REPLAYS: [Replay; 2] = [
     Replay {
         program: "replay_words",
-        kinds: b"WNAEBHPLTFUM",
-        fixed: || joined(text_lists::fixed(), tick_lists::fixed()),
-        full: || joined(text_lists::full(), tick_lists::full()),
-        samples: || joined(text_lists::samples(), tick_lists::samples()),
-        counted: b"PL",
-        malformed: Vec::new,
+        kinds: b"WNAEBHPLTFUMS",
+        fixed: || {
+            joined([
+                text_lists::fixed(),
+                tick_lists::fixed(),
+                assembly::lists::fixed(),
+            ])
+        },
+        full: || {
+            joined([
+                text_lists::full(),
+                tick_lists::full(),
+                assembly::lists::full(),
+            ])
+        },
+        samples: || {
+            joined([
+                text_lists::samples(),
+                tick_lists::samples(),
+                assembly::lists::samples(),
+            ])
+        },
+        counted: b"PLS",
+        malformed: assembly::lists::malformed,
     },
     Replay {
         program: "replay_readings",
@@ -41,7 +60,6 @@ pub const REPLAYS: [Replay; 2] = [
 ];
 
 /// One list behind the other.
-fn joined(mut first: Vec<Record>, second: Vec<Record>) -> Vec<Record> {
-    first.extend(second);
-    first
+fn joined(lists: [Vec<Record>; 3]) -> Vec<Record> {
+    lists.into_iter().flatten().collect()
 }

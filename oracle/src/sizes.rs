@@ -6,7 +6,7 @@
 pub const MEMORY_WORDS: usize = 256;
 /// The words that PC can come to: it has one byte, whatever memory has.
 pub const CODE_WORDS: usize = 256;
-/// The most words of an image that is listed.
+/// The most words of an image that is listed, and of one that is assembled.
 pub const LISTING_WORDS: usize = 256;
 /// The first length in bytes of an image that has more whole words: so many
 /// bytes decide every answer of the listing program.

@@ -1,5 +1,6 @@
-//! The model of texts that keep the whole word, held to document 02, Change 1,
-//! by texts, lines and counts that are written out here.
+//! The model of texts that keep the whole word, held to document 02, Change 1, and
+//! of listings that have `.word` for such words, by Change 4: by texts, lines and
+//! counts that are written out here.
 
 use oracle::calls::commands::{script, Command};
 use oracle::calls::program;
@@ -111,25 +112,27 @@ fn no_text_is_too_long() {
 }
 
 /// A whole listing: loose words with a label and without, each between lines
-/// that stay, the first and the last among them.
+/// that stay, the first and the last among them. A reference past the last word
+/// is in digits.
 #[test]
 fn a_listing() {
     let words = [
-        0x7011, 0xD003, 0x2012, 0x2F12, 0xE000, 0x5BCD, 0x3107, 0xEABC,
+        0x7011, 0xD003, 0x2012, 0x2F12, 0xE000, 0x5BCD, 0x3108, 0x4209, 0xEABC,
     ];
     let due = "\
-; Disassembled from 8 words of machine code.
+; Disassembled from 9 words of machine code.
 ; Labels were generated for the addresses this program refers to.
 ; Edit this assembly and press Assemble to build a new machine code image.
 
-L00:    NEGATE R1 ; 7011          ; 00  7011
+L00:    .word 7011                ; 00  7011
         JUMP  [L03] IF R0=R0      ; 01  D003
         LOAD R1, R2               ; 02  2012
-L03:    LOAD R1, R2 ; 2F12        ; 03  2F12
+L03:    .word 2F12                ; 03  2F12
         HALT                      ; 04  E000
         .word 5BCD                ; 05  5BCD
-        LOAD  R1, [L07]           ; 06  3107
-L07:    HALT ; EABC               ; 07  EABC
+        LOAD  R1, [L08]           ; 06  3108
+        STORE R2, [09]            ; 07  4209
+L08:    .word EABC                ; 08  EABC
 ";
     assert_eq!(disassemble_image(&words), due);
     assert!(texts::listing(&words).answer.ends_with(due.as_bytes()));
@@ -150,7 +153,7 @@ fn the_lines_of_every_word() {
         for (word, (line, original)) in words.iter().zip(lines.iter().zip(&originals).skip(4)) {
             assert_eq!(line.len(), 45);
             let text = match is_loose(*word) {
-                true => disassemble(*word),
+                true => format!(".word {word:04X}"),
                 false => original[8..34].trim_end().to_string(),
             };
             let due = format!("{}{text:<26}{}", &original[..8], &original[34..]);
@@ -216,8 +219,8 @@ fn readings_and_texts() {
 #[test]
 fn the_samples() {
     let listing = sample::listing();
-    assert!(listing.contains("\n        NEGATE R5 ; 7051          ; 05  7051\n"));
-    assert!(listing.contains("\nL09:    LOAD R1, R2 ; 2F12        ; 09  2F12\n"));
+    assert!(listing.contains("\n        .word 7051                ; 05  7051\n"));
+    assert!(listing.contains("\nL09:    .word 2F12                ; 09  2F12\n"));
     let input = invented();
     let loose = input.image.iter().zip(&input.marks);
     let loose: Vec<_> = loose.filter(|(word, _)| is_loose(**word)).collect();

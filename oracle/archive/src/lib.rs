@@ -11,6 +11,12 @@ mod c {
             out: *mut u8,
             out_len: usize,
         ) -> i64;
+        pub fn massey_assemble(
+            text: *const u8,
+            text_len: usize,
+            out: *mut u8,
+            out_len: usize,
+        ) -> i64;
         pub fn massey_report(
             input: *const u8,
             input_len: usize,
@@ -31,6 +37,13 @@ pub fn disassemble(word: u16, out: &mut [u8]) -> i64 {
 pub fn listing(image: &[u8], out: &mut [u8]) -> i64 {
     // SAFETY: as above, and the two slices cannot overlap.
     unsafe { c::massey_listing(image.as_ptr(), image.len(), out.as_mut_ptr(), out.len()) }
+}
+
+/// The length in bytes of the image that a text gives, or minus the refusal's
+/// number. The words are high byte first.
+pub fn assemble(text: &[u8], out: &mut [u8]) -> i64 {
+    // SAFETY: as above.
+    unsafe { c::massey_assemble(text.as_ptr(), text.len(), out.as_mut_ptr(), out.len()) }
 }
 
 /// The report's length, or minus the refusal's number. The input is what the

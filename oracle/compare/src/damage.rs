@@ -9,8 +9,10 @@ use oracle::replays::Replay;
 
 /// Records damaged at one byte each, of every kind.
 const DAMAGED: usize = 200;
-/// An answer that is short enough to damage each of its bytes in turn.
+/// An answer that is short enough to damage each of its bytes in turn, and a
+/// question that is short enough to be cut at each of its bytes.
 const SHORT: usize = 400;
+const SHORT_QUESTION: usize = 2_000;
 
 /// `records` is the program's full list.
 pub fn compare(tally: &mut Tally, replay: &Replay, records: &[Record]) {
@@ -24,6 +26,7 @@ pub fn compare(tally: &mut Tally, replay: &Replay, records: &[Record]) {
         let short: Vec<&Record> = pool
             .into_iter()
             .filter(|record| record.answer.len() <= SHORT)
+            .filter(|record| record.question.len() <= SHORT_QUESTION)
             .collect();
         damaged_everywhere(tally, replay, &mut random, &short);
         let last = random.pick(&short);
@@ -165,8 +168,8 @@ fn wrong_lengths(replay: &Replay, record: &Record) -> Vec<(String, Vec<u8>)> {
     wrong
 }
 
-/// The question of 'P' begins with a count of one byte, that of 'L', 'R' and 'G'
-/// with one of two; here it is another one than the bytes behind it say.
+/// The question of 'P' begins with a count of one byte, that of 'L', 'S', 'R' and
+/// 'G' with one of two; here it is another one than the bytes behind it say.
 fn wrong_counts(body: &[u8]) -> [Vec<u8>; 4] {
     let low = if body[0] == b'P' { 1 } else { 2 };
     let with = |at: usize, value: u8| {

@@ -2,6 +2,7 @@
 //! programs through pipes. The last line is 'N passed, M failed'. An argument
 //! picks the parts whose name begins so; where there are none, nothing passed.
 
+mod assembling;
 mod calls;
 mod damage;
 mod difference;
@@ -14,8 +15,10 @@ mod replay;
 mod reports;
 mod scripts;
 mod tally;
+mod texts;
 mod words;
 
+use oracle::assembly;
 use oracle::replays::REPLAYS;
 use oracle::report::inputs;
 use parts::Parts;
@@ -27,6 +30,11 @@ fn main() -> ExitCode {
     let mut parts = Parts::picked(env::args().nth(1).unwrap_or_default());
     parts.part("archive, words", &words::compare);
     parts.part("archive, listings", &listings::compare);
+    for family in &assembly::texts::FAMILIES {
+        parts.part(&format!("archive, assembling, {}", family.name), &|tally| {
+            assembling::compare(tally, family)
+        });
+    }
     for replay in &REPLAYS {
         let name = |list: &str| format!("{}, {list}", replay.program);
         let records = LazyCell::new(replay.full);
@@ -44,6 +52,13 @@ fn main() -> ExitCode {
     }
     parts.part("massey_calls, pieces", &scripts::compare_pieces);
     parts.part("listing program, pipes", &pipes::compare);
+    for family in &assembly::texts::FAMILIES {
+        parts.part(&format!("massey_assemble, {}", family.name), &|tally| {
+            texts::compare(tally, family)
+        });
+    }
+    parts.part("massey_assemble, pieces", &texts::compare_pieces);
+    parts.part("massey_assemble, round trips", &texts::compare_round_trips);
     for family in &inputs::FAMILIES {
         parts.part(&format!("massey_report, {}", family.name), &|tally| {
             reports::compare(tally, family)

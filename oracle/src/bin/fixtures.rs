@@ -1,8 +1,9 @@
 //! Writes the fixed lists and the lines that replaying them must print, and the
-//! sample image with its listing; or prints a list.
+//! samples of the other programs with their answers; or prints a list, or one
+//! question with its answer.
 
 use oracle::replays::{Replay, REPLAYS};
-use oracle::{calls, places, record, report, words};
+use oracle::{assembly, calls, places, record, report, words};
 use std::io::Write;
 use std::path::{Path, PathBuf};
 use std::process::ExitCode;
@@ -10,7 +11,8 @@ use std::{env, fs, io};
 
 const USAGE: &str = "usage: fixtures [--to FOLDER | --list PROGRAM FIXED | --list PROGRAM FULL | \
                      --script FAMILY NUMBER | --answer FAMILY NUMBER | \
-                     --report FAMILY NUMBER INPUT | --report-answer FAMILY NUMBER INPUT]";
+                     --report FAMILY NUMBER INPUT | --report-answer FAMILY NUMBER INPUT | \
+                     --text FAMILY NUMBER | --text-answer FAMILY NUMBER]";
 
 fn main() -> ExitCode {
     let arguments: Vec<String> = env::args().skip(1).collect();
@@ -29,6 +31,10 @@ fn main() -> ExitCode {
             print_report(family, number, input, |input| {
                 report::program::answer(&input)
             })
+        }
+        ["--text", family, number] => print_text(family, number, |text| text),
+        ["--text-answer", family, number] => {
+            print_text(family, number, |text| assembly::program::answer(&text))
         }
         _ => Err(io::Error::other(USAGE)),
     };
@@ -53,6 +59,12 @@ fn write(crates: &Path) -> io::Result<()> {
         &crates.join("massey_listing"),
         &words::sample::image(),
         words::sample::listing().as_bytes(),
+    )?;
+    let text = assembly::texts::sample::TEXT.as_bytes();
+    write_program(
+        &crates.join("massey_assemble"),
+        text,
+        &assembly::program::answer(text),
     )?;
     let script = calls::scripts::sample::script();
     write_program(
@@ -116,4 +128,18 @@ fn print_report(
     let input = case.and_then(|inputs| inputs.into_iter().nth(input));
     let input = input.ok_or_else(|| io::Error::other("there is no such input"))?;
     io::stdout().lock().write_all(&form(input))
+}
+
+/// A text of `massey_assemble`, as `compare` names it, or what is due for it.
+fn print_text(family: &str, number: &str, form: fn(Vec<u8>) -> Vec<u8>) -> io::Result<()> {
+    let family = assembly::texts::FAMILIES
+        .iter()
+        .find(|one| one.name == family);
+    let (Some(family), Ok(number)) = (family, number.parse::<usize>()) else {
+        return Err(io::Error::other(USAGE));
+    };
+    if number >= (family.count)() {
+        return Err(io::Error::other("there is no such text"));
+    }
+    io::stdout().lock().write_all(&form((family.text)(number)))
 }

@@ -1,8 +1,9 @@
 //! Texts that keep the whole word: document 02, Change 1. The original leaves
 //! out the digits that an instruction does not use, so that 2F12 and 2012 read
-//! the same; where such a digit is not 0, the text now ends in the word. This is
-//! the one place: all texts and listings that the port is held to come from
-//! here, and from the original but for that ending.
+//! the same; where such a digit is not 0, the text now ends in the word. A
+//! listing has `.word` for such a word, by Change 4, so that it can be assembled.
+//! This is the one place: all texts and listings that the port is held to come
+//! from here, and from the original but for these two.
 
 use crate::disasm;
 
@@ -41,7 +42,9 @@ pub fn disassemble(word: u16) -> String {
     }
 }
 
-/// The original's listing, where the texts of loose words are those above.
+/// The original's listing, where loose words stand as those without an opcode do:
+/// an ending behind ";" would be a comment, and the word would be lost. A loose
+/// word refers to no address, so labels are the original's.
 pub fn disassemble_image(words: &[u16]) -> String {
     let listing = disasm::disassemble_image(words);
     let mut lines: Vec<String> = listing.split_inclusive('\n').map(String::from).collect();
@@ -52,8 +55,8 @@ pub fn disassemble_image(words: &[u16]) -> String {
     );
     for (line, word) in lines[HEAD_LINES..].iter_mut().zip(words) {
         if is_loose(*word) {
-            let text = format!("{:<1$}", disassemble(*word), COLUMNS.len());
-            line.replace_range(COLUMNS, &text);
+            let text = format!(".word {word:04X}");
+            line.replace_range(COLUMNS, &format!("{text:<0$}", COLUMNS.len()));
         }
     }
     lines.concat()

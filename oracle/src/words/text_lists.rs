@@ -131,9 +131,10 @@ pub(crate) fn edge_words(random: &mut Random) -> Vec<u16> {
     words
 }
 
-/// An image of one word and two of the most. Each word whose text may end in it
-/// stands in lines without a label, and from the middle on in one with a label.
-/// The last line ends in the word, without a label and with one.
+/// An image of one word and two of the most. Each word whose text may end in it,
+/// which then is listed as `.word`, stands in lines without a label, and from the
+/// middle on in one with a label. The last line has such a word, without a label
+/// and with one.
 fn partly_used() -> [Vec<u16>; 3] {
     let labelled: Vec<usize> = (MOST / 2..).take(PARTLY_USED.len()).collect();
     let last = [&labelled[..], &[MOST - 1]].concat();

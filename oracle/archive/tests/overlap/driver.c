@@ -1,8 +1,8 @@
 /* Makes calls of libmassey.a whose input and output lie in one region of bytes,
  * where they may overlap. Standard input has one question after the other, all
- * numbers 4 bytes, high byte first: the call's letter (D, L or R), the region's
- * length, where the input begins and its length, where the output begins and
- * its length, the region's bytes. For each, standard output gets the call's
+ * numbers 4 bytes, high byte first: the call's letter (D, L, A or R), the
+ * region's length, where the input begins and its length, where the output
+ * begins and its length, the region's bytes. For each, standard output gets the call's
  * answer, 8 bytes, and the region as the call left it. */
 #include "massey.h"
 
@@ -30,6 +30,8 @@ static int64_t call(int letter, const uint8_t *in, size_t in_len, uint8_t *out,
         return massey_disassemble((uint16_t)(in[0] << 8 | in[1]), out, out_len);
     case 'L':
         return massey_listing(in, in_len, out, out_len);
+    case 'A':
+        return massey_assemble(in, in_len, out, out_len);
     case 'R':
         return massey_report(in, in_len, out, out_len);
     }

@@ -15,6 +15,7 @@ use std::thread;
 pub enum Call {
     Disassemble = b'D' as isize,
     Listing = b'L' as isize,
+    Assemble = b'A' as isize,
     Report = b'R' as isize,
 }
 

@@ -1,6 +1,7 @@
 //! What the calls are given. All of it is invented; a hidden word has a value
 //! that is known again wherever it shows.
 
+use oracle::assembly::texts::{counts, faults, labels, sample};
 use oracle::images;
 use oracle::random::Random;
 use oracle::report::bytes::LONGEST;
@@ -10,6 +11,7 @@ use oracle::report::inputs::refused;
 use oracle::report::inputs::sample::invented;
 use oracle::report::program::bytes;
 use oracle::sizes::{BREAKPOINTS, LISTING_WORDS, MEMORY_WORDS};
+use oracle::words::disassembly;
 
 /// The first hidden word of those whose upper half is hidden.
 const HALF: usize = MEMORY_WORDS / 2;
@@ -98,4 +100,40 @@ pub fn refused_listings() -> Vec<Refused> {
     let odd = (6, image.clone(), LISTING);
     image.push(0);
     vec![short, odd, (1, image, LISTING)]
+}
+
+/// Texts that give no words, a few, and as many as there may be: with labels
+/// before and behind their use, long and short lines.
+pub fn texts() -> Vec<Vec<u8>> {
+    let mut texts = vec![
+        Vec::new(),
+        b"; no words\n".to_vec(),
+        b"HALT".to_vec(),
+        b"LOAD R1, [LZ]\nLZ: HALT\n".to_vec(),
+        sample::TEXT.into(),
+        counts::text(LISTING_WORDS, "", ""),
+        labels::full().swap_remove(1),
+    ];
+    let listing = |words: &Vec<u16>| disassembly::disassemble_image(words).into_bytes();
+    texts.extend(images().iter().map(listing));
+    texts
+}
+
+/// Each refusal, at the start of a text, at its end, and behind many words.
+pub fn refused_texts() -> Vec<Refused> {
+    let longest = 2 * LISTING_WORDS;
+    let too_many = counts::text(LISTING_WORDS + 1, "", "");
+    let faulty = |line| faults::text(LISTING_WORDS - 1, &[line], true);
+    let whole = counts::text(LISTING_WORDS, "", "");
+    vec![
+        (5, b"HALT".to_vec(), 1),
+        (5, whole, longest - 1),
+        (11, b"x".to_vec(), longest),
+        (11, [&b"x\n"[..], &too_many].concat(), longest),
+        (11, faulty("HALT x"), longest),
+        (12, b"LOAD R1, [LB]".to_vec(), longest),
+        (12, faulty("LOAD R1, [LB]"), longest),
+        (12, faulty("LA: HALT"), longest),
+        (13, too_many, longest),
+    ]
 }

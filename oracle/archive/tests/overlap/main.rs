@@ -8,6 +8,7 @@ mod places;
 
 use driver::{ask, Answer, Call, Question};
 use inputs::Refused;
+use oracle::assembly::model;
 use oracle::images;
 use oracle::lent;
 use oracle::report::bytes::LONGEST;
@@ -36,6 +37,7 @@ fn separate(name: &str, call: Call, input: &[u8], out_len: usize) -> Case {
     let number = match call {
         Call::Disassemble => archive::disassemble(images::whole_words(input)[0], &mut out),
         Call::Listing => archive::listing(input, &mut out),
+        Call::Assemble => archive::assemble(input, &mut out),
         Call::Report => archive::report(input, &mut out),
     };
     let length = match call {
@@ -195,6 +197,30 @@ fn listings() {
 #[test]
 fn refused_listings() {
     all_same(&refused(Call::Listing, &inputs::refused_listings()));
+}
+
+#[test]
+fn assembled_texts() {
+    let cases: Vec<Case> = inputs::texts()
+        .iter()
+        .flat_map(|text| {
+            let words = model::assemble(text).expect("it is taken");
+            let image = images::bytes(&words);
+            [0, 600].map(|more| {
+                let name = format!("a text of {} bytes", text.len());
+                let case = separate(&name, Call::Assemble, text, image.len() + more);
+                assert_eq!(case.number, image.len() as i64, "{name}");
+                assert_eq!(case.written, image, "{name}");
+                case
+            })
+        })
+        .collect();
+    all_same(&cases);
+}
+
+#[test]
+fn refused_texts() {
+    all_same(&refused(Call::Assemble, &inputs::refused_texts()));
 }
 
 /// The call reads no bytes: its word is taken from the output before the call.

@@ -17,11 +17,15 @@ const STEP: usize = 101;
 
 /// Where the input begins, counted from the output's start: the same start,
 /// places inside, before and behind, one byte in common at either end, and none.
+/// A text is longer than its words, so the output may lie anywhere inside the
+/// input too.
 pub fn all(in_len: usize, out_len: usize) -> BTreeSet<isize> {
     let (input, out) = (in_len as isize, out_len as isize);
     let ends = [-input, 1 - input, 2 - input, -input / 2, -2, -1];
     let far = [BEHIND_THE_WORDS, out - input, out - 2, out - 1, out];
     let each = (0..=EACH_TO).chain((0..out).step_by(STEP));
+    let before = (0..=EACH_TO).chain((0..input).step_by(STEP));
+    let each = each.chain(before.map(|place| -place));
     let places = ends.into_iter().chain(far).chain(each);
     places
         .filter(|place| (-input..=out).contains(place))

@@ -1,6 +1,7 @@
-//! The programs where something is short: a stack of 160 KB, a read that fails,
-//! a write that fails.
+//! The programs where something is short: a stack of 160 KB or of 400, a read that
+//! fails, a write that fails.
 
+mod pipes;
 mod reads;
 mod run;
 mod stack;

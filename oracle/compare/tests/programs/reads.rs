@@ -1,9 +1,12 @@
 //! A read that fails. The programs do not know what they were not given: the
-//! report and the listing program answer `refused 6`, the call program the byte
-//! FF, and plays nothing, even where what came would be a whole input. Where so
-//! many bytes came that they decide the answer, no more is read.
+//! report, the listing and the assembling program answer `refused 6`, the call
+//! program the byte FF, and plays nothing, even where what came would be a whole
+//! input. Where so many bytes came that they decide the answer, no more is read.
 
+use crate::pipes::{self, PAGE};
 use crate::run::{command, output, path, same, shell};
+use oracle::assembly;
+use oracle::assembly::texts::{counts, sample as text_sample};
 use oracle::calls::commands::{script, Command as Call};
 use oracle::calls::{program, scripts};
 use oracle::images;
@@ -18,9 +21,10 @@ use std::os::fd::OwnedFd;
 use std::os::unix::net::UnixStream;
 
 /// Each program, and what it answers where a read fails.
-const PROGRAMS: [(&str, &[u8]); 3] = [
+const PROGRAMS: [(&str, &[u8]); 4] = [
     ("massey_report", b"refused 6\n"),
     ("massey_listing", b"refused 6\n"),
+    ("massey_assemble", b"refused 6\n"),
     ("massey_calls", b"\xFF"),
 ];
 
@@ -35,6 +39,21 @@ fn failing_after(name: &str, bytes: &[u8]) -> Vec<u8> {
     let written = output(command);
     // Closed any earlier, the bytes would have an end.
     drop(ours);
+    written
+}
+
+/// The same for more bytes than a socket holds: a pipe takes them all before the
+/// program starts.
+fn failing_after_many(name: &str, bytes: &[u8]) -> Vec<u8> {
+    // A pipe's pages are a power of two.
+    let pages = bytes.len().div_ceil(PAGE).next_power_of_two();
+    let (reader, mut writer) = pipes::of_pages(pages);
+    writer.write_all(bytes).expect("the pipe takes them");
+    pipes::do_not_wait(&reader);
+    let mut command = command(path(name));
+    command.stdin(reader);
+    let written = output(command);
+    drop(writer);
     written
 }
 
@@ -106,6 +125,30 @@ fn as_many_bytes_come_as_decide_a_listing() {
         let written = failing_after("massey_listing", &vec![0x41; length]);
         let what = format!("massey_listing, {length} bytes");
         same(&written, due.as_bytes(), &what);
+    }
+}
+
+#[test]
+fn a_whole_text_comes() {
+    let longest = counts::text(LISTING_WORDS, "", "");
+    for text in [b"HALT\n", text_sample::TEXT.as_bytes(), &longest, b"x\n"] {
+        assert_ne!(assembly::program::answer(text), refused(6));
+        let written = failing_after("massey_assemble", text);
+        let what = format!("massey_assemble, {} bytes", text.len());
+        same(&written, b"refused 6\n", &what);
+    }
+}
+
+/// A text that is too long is refused 6 as well, so only a program that hangs, or
+/// looks at the text, can be told here.
+#[test]
+fn as_many_bytes_come_as_decide_a_text() {
+    for length in [assembly::program::LONGEST, assembly::program::DECIDING] {
+        for byte in [b' ', b'x', b'\n'] {
+            let written = failing_after_many("massey_assemble", &vec![byte; length]);
+            let what = format!("massey_assemble, {length} bytes");
+            same(&written, b"refused 6\n", &what);
+        }
     }
 }
 

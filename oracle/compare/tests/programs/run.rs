@@ -1,7 +1,7 @@
 //! Runs a program to its end.
 
 use oracle::places;
-use std::io::{self, PipeReader, Read, Write};
+use std::io::{self, ErrorKind, PipeReader, Read, Write};
 use std::path::PathBuf;
 use std::process::{Child, Command, ExitStatus, Stdio};
 use std::thread;
@@ -40,6 +40,18 @@ pub fn input(bytes: &[u8]) -> PipeReader {
     assert!(bytes.len() <= PIPE, "nobody reads yet");
     let (reader, mut writer) = io::pipe().expect("there are pipes");
     writer.write_all(bytes).expect("the pipe takes them");
+    reader
+}
+
+/// Standard input with any number of bytes and an end. They are written while the
+/// program reads; it may stop reading once its answer is decided.
+pub fn long_input(bytes: &[u8]) -> PipeReader {
+    let (reader, mut writer) = io::pipe().expect("there are pipes");
+    let bytes = bytes.to_vec();
+    thread::spawn(move || match writer.write_all(&bytes) {
+        Err(error) if error.kind() != ErrorKind::BrokenPipe => panic!("{error}"),
+        _ => {}
+    });
     reader
 }
 

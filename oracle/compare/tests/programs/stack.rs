@@ -1,7 +1,10 @@
-//! `massey_report` and `massey_listing` under `ulimit -s 160`, with the largest
-//! inputs and with such as are refused.
+//! `massey_report` and `massey_listing` under `ulimit -s 160`, and
+//! `massey_assemble`, which holds a text of 262,145 bytes, under `ulimit -s 400`:
+//! with the largest inputs and with such as are refused.
 
-use crate::run::{command, input, output, path, same, shell};
+use crate::run::{command, long_input, output, path, same, shell};
+use oracle::assembly;
+use oracle::assembly::texts::{self, counts};
 use oracle::images;
 use oracle::random::Random;
 use oracle::report::bytes::LONGEST;
@@ -12,19 +15,28 @@ use oracle::report::program::{answer, bytes};
 use oracle::sizes::{BREAKPOINTS, LARGEST_BUDGET, LISTING_TOO_LONG, LISTING_WORDS, MEMORY_WORDS};
 use oracle::words::disassembly;
 
-const IN_160_KB: &str = "ulimit -s 160 && exec \"$0\"";
+/// The stack that a program must run in, in KB.
+fn kilobytes(name: &str) -> usize {
+    match name {
+        "massey_assemble" => 400,
+        _ => 160,
+    }
+}
 
 /// Holds the program to what is due, with the usual stack and with the small
 /// one. The kernel moves the stack's start by up to 8 KB from run to run, so a
 /// program that just fits is run a few times.
 fn runs(name: &str, bytes: &[u8], due: &[u8], what: &str) {
     let mut usual = command(path(name));
-    usual.stdin(input(bytes));
+    usual.stdin(long_input(bytes));
     same(&output(usual), due, &format!("{name}, {what}"));
+    let kilobytes = kilobytes(name);
+    let limit = format!("ulimit -s {kilobytes} && exec \"$0\"");
     for _ in 0..16 {
-        let mut small = shell(IN_160_KB, name);
-        small.stdin(input(bytes));
-        same(&output(small), due, &format!("{name} in 160 KB, {what}"));
+        let mut small = shell(&limit, name);
+        small.stdin(long_input(bytes));
+        let what = format!("{name} in {kilobytes} KB, {what}");
+        same(&output(small), due, &what);
     }
 }
 
@@ -104,5 +116,27 @@ fn refused_listings() {
     ] {
         let what = format!("{length} bytes");
         runs("massey_listing", &vec![0x41; length], due.as_bytes(), &what);
+    }
+}
+
+/// Some texts around the program's bound, and some with 256 labels: as many words
+/// as there may be, and each refusal, are among the answers.
+#[test]
+fn the_longest_texts() {
+    let mut texts: Vec<Vec<u8>> = texts::bounds::all().into_iter().step_by(5).collect();
+    texts.extend(texts::labels::full().into_iter().step_by(7));
+    texts.extend([0, LISTING_WORDS, LISTING_WORDS + 1].map(|words| counts::text(words, "", "")));
+    let due: Vec<Vec<u8>> = texts
+        .iter()
+        .map(|text| assembly::program::answer(text))
+        .collect();
+    for number in [6, 11, 12, 13] {
+        let line = format!("refused {number}\n").into_bytes();
+        assert!(due.contains(&line), "no text is refused {number}");
+    }
+    assert!(due.iter().any(|due| due.len() == 2 * LISTING_WORDS));
+    for (text, due) in texts.iter().zip(&due) {
+        let what = format!("a text of {} bytes", text.len());
+        runs("massey_assemble", text, due, &what);
     }
 }

@@ -2,7 +2,10 @@
 //! as fast as the program writes. A program stops at its first failed write, so
 //! what comes out is the beginning of what it has to say.
 
-use crate::run::{command, end, input, path, read};
+use crate::pipes::{self, PAGE};
+use crate::run::{command, end, input, path, read, shell};
+use oracle::assembly;
+use oracle::assembly::texts::{counts, sample};
 use oracle::calls::commands::{script, Command as Call};
 use oracle::calls::program;
 use oracle::images;
@@ -10,49 +13,30 @@ use oracle::report::inputs::examples::longest_report;
 use oracle::report::program::{answer, bytes};
 use oracle::sizes::{LISTING_WORDS, MEMORY_WORDS};
 use oracle::words::disassembly;
-use std::ffi::c_int;
-use std::io::{self, PipeReader, PipeWriter, Read};
-use std::os::fd::AsRawFd;
+use std::io::{PipeReader, PipeWriter, Read, Write};
 use std::process::Child;
 use std::thread;
 use std::time::Duration;
 
-/// A page: the least that a pipe holds.
-const PAGE: usize = 4_096;
 /// How long a slow reader rests behind each page.
 const REST: Duration = Duration::from_millis(1);
 
-mod c {
-    use std::ffi::c_int;
-
-    pub const SET_FLAGS: c_int = 4;
-    pub const NONBLOCK: c_int = 0o4000;
-    pub const SET_PIPE_SIZE: c_int = 1_031;
-
-    extern "C" {
-        /// The C library's, with Linux's numbers: Rust's own pipes always wait.
-        pub fn fcntl(file: c_int, command: c_int, ...) -> c_int;
-    }
-}
-
-fn control(pipe: &PipeWriter, command: c_int, value: c_int) -> c_int {
-    // SAFETY: the file is open as long as it is lent, and both commands take a
-    // number.
-    unsafe { c::fcntl(pipe.as_raw_fd(), command, value) }
-}
-
 /// A pipe of one page that does not wait.
 fn small_pipe() -> (PipeReader, PipeWriter) {
-    let (reader, writer) = io::pipe().expect("there are pipes");
-    let size = control(&writer, c::SET_PIPE_SIZE, PAGE as c_int);
-    assert_eq!(size, PAGE as c_int, "a pipe can have one page");
-    assert_eq!(control(&writer, c::SET_FLAGS, c::NONBLOCK), 0);
+    let (reader, writer) = pipes::of_pages(1);
+    pipes::do_not_wait(&writer);
     (reader, writer)
 }
 
 /// Starts a program that writes to such a pipe.
 fn started(name: &str, bytes: &[u8]) -> (Child, PipeReader) {
-    let (reader, writer) = small_pipe();
+    started_behind(b"", name, bytes)
+}
+
+/// The same, where so many bytes are in the pipe already.
+fn started_behind(first: &[u8], name: &str, bytes: &[u8]) -> (Child, PipeReader) {
+    let (reader, mut writer) = small_pipe();
+    writer.write_all(first).expect("the pipe takes them");
     let mut command = command(path(name));
     command.stdin(input(bytes)).stdout(writer);
     let child = command.spawn().expect("the program can be started");
@@ -88,6 +72,36 @@ fn the_beginning_of_a_report_and_of_a_listing() {
     let listing = disassembly::disassemble_image(&words).into_bytes();
     let written = unread("massey_listing", &images::bytes(&words));
     is_beginning(&written, &listing, "massey_listing");
+}
+
+/// The words of a text have 512 bytes at most, so the pipe has no room for them
+/// from the start, or only for some.
+#[test]
+fn words_that_find_no_room() {
+    let text = counts::text(LISTING_WORDS, "", "");
+    let due = assembly::program::answer(&text);
+    for room in [0, 1, 2, due.len() - 2, due.len() - 1] {
+        let first = vec![b'-'; PAGE - room];
+        let (child, reader) = started_behind(&first, "massey_assemble", &text);
+        let status = end(child);
+        assert!(status.code().is_some(), "it ends by itself: {status}");
+        let written = read(reader);
+        let behind = written.strip_prefix(&first[..]).expect("they stay");
+        assert!(behind.len() <= room, "{} bytes came", behind.len());
+        assert!(due.starts_with(behind), "{room}: it is no beginning");
+    }
+}
+
+/// There is nobody to write to, or no room at all.
+#[test]
+fn standard_output_is_closed_or_full() {
+    for (what, name) in [(">&-", "closed"), (">/dev/full", "full")] {
+        let mut command = shell(&format!("exec \"$0\" {what}"), "massey_assemble");
+        command.stdin(input(sample::TEXT.as_bytes()));
+        let child = command.spawn().expect("the program can be started");
+        let status = end(child);
+        assert!(status.code().is_some(), "{name}: {status}");
+    }
 }
 
 /// The answer to a step has up to 263 bytes, and where it does not fit into the
