@@ -13,7 +13,7 @@ use lib.Seq.{take-append-seam}
 use Rattle.isa.specs.Text.{padded}
 use Rattle.assemble.specs.Grammar.{Token, letter, blank, digit, name, forms, formAt, counted, referred, Digits, Instruction}
 use Rattle.assemble.specs.Lines.{Line, bad, empty, word, readLine}
-use Rattle.assemble.specs.Assembly.{lines, wordsOf, labelsOf, refersOf, Accepted, faulty, key, doubled, missing, unless, labelRefusal, linesRefusal, refusal, placed, resolved, resolveAll, linesImage, image}
+use Rattle.assemble.specs.Assembly.{lines, wordsOf, labelsOf, refersOf, Accepted, faulty, key, doubled, missing, unless, labelRefusal, linesRefusal, refusal, placed, resolved, resolveAll, linesImage, image, Image}
 use Rattle.assemble.specs.Reading.{linesFrom, Held, Linkable, resolvedAs, linked}
 use Rattle.encoding.specs.Bytes.{over, bigEndians, written}
 use Rattle.encoding.proofs.Numbers.{length-bigEndians}
@@ -27,7 +27,7 @@ use Rattle.assemble.specs.declared.Built.the-variants.{Written, Refused}
 use Rattle.assemble.proofs.Scans.{rest-digits}
 use Rattle.isa.proofs.Truths.{below, tested}
 use Rattle.assemble.proofs.Exact.{word-line-exact}
-use Rattle.assemble.proofs.Texts.{served-accepted, accepted-served, accepted-image}
+use Rattle.assemble.proofs.Texts.{served-accepted, accepted-served, even-lines, length-map-key, accepted-image}
 use Rattle.assemble.proofs.RoundTrip.{round-trip}
 use Rattle.assemble.proofs.Linking.{answered-refused, length-resolved}
 
@@ -115,12 +115,6 @@ resolved-small ks w r h = go (eqb r 0)
     go true k = k
     go false k = omega (arith, placed-most r ks)
 
-even-lines : (ls : List Line) → (length (map key (refersOf ls)) ≡ length (wordsOf ls)) × (length (map key (labelsOf ls)) ≡ length (wordsOf ls))
-even-lines [] = (refl, refl)
-even-lines (bad ∷ ls) = even-lines ls
-even-lines (empty ∷ ls) = even-lines ls
-even-lines (word l w r ∷ ls) = let k = even-lines ls in (ap suc (k .0), ap suc (k .1))
-
 -- ---- the answer
 
 module _ (t : List ℕ) (n : ℕ) (ws ks rs : List ℕ) (h : Held (linesFrom t 0) n ws ks rs) where
@@ -131,8 +125,8 @@ module _ (t : List ℕ) (n : ℕ) (ws ks rs : List ℕ) (h : Held (linesFrom t 0
       let m : length (wordsOf ls) ≤ 256 = rw (← h .words, length-take) (omega (arith, h .few)) in
       rw (h .words, h .labels, h .refers) (record {
         few = m;
-        even = v .0;
-        small = λ i g. resolved-small (map key (labelsOf ls)) (getD (wordsOf ls) i 0) (getD (map key (refersOf ls)) i 0) (omega (arith, v .1, m)) (lines-small (lines t) i);
+        even = length-map-key (refersOf ls) ∙ v .0;
+        small = λ i g. resolved-small (map key (labelsOf ls)) (getD (wordsOf ls) i 0) (getD (map key (refersOf ls)) i 0) (omega (arith, length-map-key (labelsOf ls), v .1, m)) (lines-small (lines t) i);
       })
 
   pub held-answer : 0 ≡ faulty 0 (linesFrom t 0) → linked (take n ws) (take n ks) (take n rs) ≡ assembled t
@@ -167,7 +161,7 @@ unfolding image linesImage
 image-few t e =
     let ls : List Line = map readLine (lines t) in
     let f = served-accepted t e .few in
-    rw (length-resolved (map key (labelsOf ls)) (wordsOf ls) (map key (refersOf ls)) (even-lines ls .0)) f
+    rw (length-resolved (map key (labelsOf ls)) (wordsOf ls) (map key (refersOf ls)) (length-map-key (refersOf ls) ∙ even-lines ls .0)) f
 
 -- the answer a has the words of an accepted text's image in front
 module _ (t : List ℕ) (a : Assembled) (e : a ≡ assembled t) where
@@ -215,9 +209,10 @@ module _ (t out : List ℕ) where
 
 -- ---- texts that are accepted, and listings
 
-pub accepted-answer : (t : List ℕ) (ls : List Line) → Accepted t ls → assembled t ≡ answered 0 (linesImage ls)
+-- an accepted text is answered with the image that its lines say
+pub accepted-answer : (t : List ℕ) (ls : List Line) → Accepted t ls → (ws : List ℕ) × Image ls ws × (assembled t ≡ answered 0 ws)
 unfolding assembled
-accepted-answer t ls a = rw (accepted-served t ls a .0, accepted-image t ls a)
+accepted-answer t ls a = (image t, accepted-image t ls a, rw (accepted-served t ls a .0))
 
 -- the listing of an image is assembled to that image
 pub listing-answer : (ws : List ℕ) → length ws ≤ 256 → ((a : ℕ) → getD ws a 0 < 65536) → assembled (listingOf ws) ≡ answered 0 ws

@@ -86,9 +86,6 @@ unfolding made
 plain-made [] ds l gs h e = plain-spaces (getD gs 0 0)
 plain-made (letter c ∷ t) ds l gs h e = go (isNameByte c) e (plain-made t ds l gs h)
   where
-    s : List ℕ
-    s = made t ds l gs
-
     go : (v : Bool) → cond v (plain t) (not (eqb c 58)) ≡ true → (plain t ≡ true → eqb (getD (behind isNameByte (made t ds l gs)) 0 0) 58 ≡ false)
         → eqb (getD (cond v (behind isNameByte (made t ds l gs)) (c ∷ made t ds l gs)) 0 0) 58 ≡ false
     go true k f = f k
@@ -158,36 +155,34 @@ label-solid : (l x : List ℕ) → isLabel l ≡ true → behind isSpace (l ++ x
 label-solid [] x e = false-true e
 label-solid (b ∷ l) x e = rw (eqb-true b 76 (both (eqb b 76) _ e .0))
 
+-- the comment is cut off and the spaces at the left are skipped
+opened : {s : List ℕ} (n : ℕ) (x c : List ℕ) → s ≡ spaces n ++ (x ++ c) → all noComment x ≡ true → Comment c → behind isSpace (front noComment s) ≡ behind isSpace x
+opened n x c t e k =
+    let u = all-append noComment (spaces n) x (spaces-clean n) e in
+    rw (t ∙ sym (append-assoc (spaces n) x c), cut (spaces n ++ x) c u k) (skip-spaces n x)
+
 line-read : (s l : List ℕ) (w : ℕ) (r : List ℕ) → WordLine s l w r → readLine s ≡ word l w r
 unfolding readLine
 line-read s l w r k = go (k .labelled)
   where
-    i : List ℕ
-    i = k .body
-
     b : Body (k .body)
     b = body-of (k .body) w r (k .instructs)
 
     t : tried forms (k .body) ≡ found w r
     t = instruction-exact (k .body) w r .1 (k .instructs)
 
-    -- the comment is cut off and the spaces at the left are skipped
-    opened : all noComment (k .start) ≡ true → behind isSpace (front noComment s) ≡ behind isSpace (k .start ++ k .body)
-    opened e =
-        let x : List ℕ = spaces (k .left) ++ (k .start ++ k .body) in
-        let j : s ≡ x ++ k .comment = k .text ∙ simp append-assoc in
-        let c : all noComment x ≡ true = all-append noComment (spaces (k .left)) (k .start ++ k .body) (spaces-clean (k .left)) (all-append noComment (k .start) (k .body) e (b .uncommented)) in
-        rw (j, cut x (k .comment) c (k .commented)) (skip-spaces (k .left) (k .start ++ k .body))
+    -- with its label, or none, in front
+    read : (x : List ℕ) → k .start ++ k .body ≡ x → all noComment (k .start) ≡ true → behind isSpace x ≡ x → readBody x ≡ word l w r → readBody (behind isSpace (front noComment s)) ≡ word l w r
+    read x e u y z =
+        let o = opened (k .left) (k .start ++ k .body) (k .comment) (k .text ∙ simp append-assoc) (all-append noComment (k .start) (k .body) u (b .uncommented)) (k .commented) in
+        rw (o, e, y) z
 
     go : Prefix (k .start) l → readBody (behind isSpace (front noComment s)) ≡ word l w r
-    go (inl q) =
-        let e : all noComment (k .start) ≡ true = rw (q .0) refl in
-        rw (opened e, q .0, q .1, b .unspaced) (body-read (k .body) w r t (b .unlabelled))
+    go (inl q) = read (k .body) (rw (q .0)) (rw (q .0)) (b .unspaced) (rw (q .1) (body-read (k .body) w r t (b .unlabelled)))
     go (inr q) =
-        let p : List ℕ = l ++ (58 ∷ spaces (suc (q .0))) in
-        let c : all noComment (k .start) ≡ true = rw (q .2) (all-append noComment l (58 ∷ spaces (suc (q .0))) (label-clean l (q .1)) (spaces-clean (suc (q .0)))) in
-        let a : k .start ++ k .body ≡ l ++ (58 ∷ (spaces (suc (q .0)) ++ k .body)) = rw (q .2) (append-assoc l (58 ∷ spaces (suc (q .0))) (k .body)) in
-        rw (opened c, a, label-solid l (58 ∷ (spaces (suc (q .0)) ++ k .body)) (q .1)) (label-read l (k .body) (q .0) w r (q .1) (b .unspaced) t)
+        let p : List ℕ = 58 ∷ spaces (suc (q .0)) in
+        read (l ++ (p ++ k .body)) (rw (q .2) (append-assoc l p (k .body))) (rw (q .2) (all-append noComment l p (label-clean l (q .1)) (spaces-clean (suc (q .0)))))
+        (label-solid l (p ++ k .body) (q .1)) (label-read l (k .body) (q .0) w r (q .1) (b .unspaced) t)
 
 empty-read : (s : List ℕ) → EmptyLine s → readLine s ≡ empty
 unfolding readLine readBody
@@ -218,13 +213,9 @@ record Bodied (c l : List ℕ) (w : ℕ) (r : List ℕ) : Type 0 where
   instructs : Instruction body w r
   text : c ≡ start ++ body
 
-record Lined (l : List ℕ) (o : Found) (m : List ℕ) (w : ℕ) (r : List ℕ) : Type 0 where
-  label : l ≡ m
-  reads : o ≡ found w r
-
-lined-word : (l : List ℕ) (o : Found) (m : List ℕ) (w : ℕ) (r : List ℕ) → lined l o ≡ word m w r → Lined l o m w r
+lined-word : (l : List ℕ) (o : Found) (m : List ℕ) (w : ℕ) (r : List ℕ) → lined l o ≡ word m w r → (l ≡ m) × (o ≡ found w r)
 lined-word l none m w r e = let z : _≡_ {A = ℕ} 0 1 = cc in absurd (omega arith)
-lined-word l (found v q) m w r e = record { label = cc; reads = cc }
+lined-word l (found v q) m w r e = (cc, cc)
 
 head-cons : (x : List ℕ) (c : ℕ) → getD x 0 0 ≡ suc c → x ≡ suc c ∷ drop 1 x
 head-cons [] c e = absurd (omega arith)
@@ -235,51 +226,42 @@ blank-front : (x : List ℕ) → isSpace (getD x 0 0) ≡ true → x ≡ spaces 
 blank-front [] e = false-true e
 blank-front (b ∷ x) e = rw e (λ i. eqb-true b 32 e i ∷ spaced-front x i)
 
+-- a label n, its colon, and what is left
+colon-fits : (c n x l : List ℕ) (w : ℕ) (r : List ℕ) → n ++ x ≡ c → isLabel n && eqb (getD x 0 0) 58 ≡ true → afterColon n (drop 1 x) ≡ word l w r → Bodied c l w r
+colon-fits c n x l w r j q h = go (isSpace (getD y 0 0)) refl h
+  where
+    y : List ℕ
+    y = drop 1 x
+
+    go : (v : Bool) → isSpace (getD (drop 1 x) 0 0) ≡ v → cond v (lined n (tried forms (behind isSpace (drop 1 x)))) bad ≡ word l w r → Bodied c l w r
+    go true e f =
+        let i = behind isSpace y in
+        let p : List ℕ = 58 ∷ spaces (suc (length (front isSpace (drop 1 y)))) in
+        let k = lined-word n (tried forms i) l w r f in
+        let b = both (isLabel n) (eqb (getD x 0 0) 58) q in
+        let t : x ≡ p ++ i = head-cons x 57 (eqb-true (getD x 0 0) 58 (b .1)) ∙ ap (λ (z : List ℕ). 58 ∷ z) (blank-front y e) in
+        record {
+          start = l ++ p;
+          body = i;
+          labelled = inr (length (front isSpace (drop 1 y)), rw (k .0) at (b .0), refl);
+          instructs = instruction-exact i w r .0 (k .1);
+          text = sym j ∙ (λ z. (k .0) z ++ t z) ∙ sym (append-assoc l p i);
+        }
+    go false e f = let z : _≡_ {A = ℕ} 0 1 = cc in absurd (omega arith)
+
 body-fits : (c l : List ℕ) (w : ℕ) (r : List ℕ) → readBody c ≡ word l w r → Bodied c l w r
 unfolding readBody
 body-fits [] l w r e = let z : _≡_ {A = ℕ} 0 1 = cc in absurd (omega arith)
-body-fits (b ∷ s) l w r e = go (startsLabelled (b ∷ s)) refl e
+body-fits (b ∷ s) l w r e = go (startsLabelled c) refl e
   where
     c : List ℕ
     c = b ∷ s
 
-    n : List ℕ
-    n = front isNameByte (b ∷ s)
-
-    x : List ℕ
-    x = behind isNameByte (b ∷ s)
-
-    blanked : startsLabelled (b ∷ s) ≡ true → (v : Bool) → isSpace (getD (drop 1 (behind isNameByte (b ∷ s))) 0 0) ≡ v
-        → cond v (lined (front isNameByte (b ∷ s)) (tried forms (behind isSpace (drop 1 (behind isNameByte (b ∷ s)))))) bad ≡ word l w r → Bodied (b ∷ s) l w r
-    blanked q true y h =
-        let k = lined-word (front isNameByte (b ∷ s)) (tried forms (behind isSpace (drop 1 (behind isNameByte (b ∷ s))))) l w r h in
-        let m = length (front isSpace (drop 1 (drop 1 (behind isNameByte (b ∷ s))))) in
-        let i = behind isSpace (drop 1 (behind isNameByte (b ∷ s))) in
-        let isl : isLabel (front isNameByte (b ∷ s)) ≡ true = both (isLabel (front isNameByte (b ∷ s))) (eqb (getD (behind isNameByte (b ∷ s)) 0 0) 58) q .0 in
-        let colon : getD (behind isNameByte (b ∷ s)) 0 0 ≡ 58 = eqb-true (getD (behind isNameByte (b ∷ s)) 0 0) 58 (both (isLabel (front isNameByte (b ∷ s))) (eqb (getD (behind isNameByte (b ∷ s)) 0 0) 58) q .1) in
-        let t : b ∷ s ≡ front isNameByte (b ∷ s) ++ (58 ∷ (spaces (suc m) ++ i)) =
-        sym (front-behind isNameByte (b ∷ s)) ∙ ap (λ (z : List ℕ). front isNameByte (b ∷ s) ++ z) (head-cons (behind isNameByte (b ∷ s)) 57 colon ∙ ap (λ (z : List ℕ). 58 ∷ z) (blank-front (drop 1 (behind isNameByte (b ∷ s))) y)) in
-        record {
-          start = l ++ (58 ∷ spaces (suc m));
-          body = i;
-          labelled = inr (m, rw (k .label) at isl, refl);
-          instructs = instruction-exact i w r .0 (k .reads);
-          text = t ∙ rw (k .label) (sym (append-assoc l (58 ∷ spaces (suc m)) i));
-        }
-    blanked q false y h = let z : _≡_ {A = ℕ} 0 1 = cc in absurd (omega arith)
-
-    go : (v : Bool) → startsLabelled (b ∷ s) ≡ v
-        → cond v (afterColon (front isNameByte (b ∷ s)) (drop 1 (behind isNameByte (b ∷ s)))) (lined [] (tried forms (b ∷ s))) ≡ word l w r → Bodied (b ∷ s) l w r
-    go true q h = blanked q (isSpace (getD (drop 1 (behind isNameByte (b ∷ s))) 0 0)) refl h
+    go : (v : Bool) → startsLabelled (b ∷ s) ≡ v → cond v (afterColon (front isNameByte (b ∷ s)) (drop 1 (behind isNameByte (b ∷ s)))) (lined [] (tried forms (b ∷ s))) ≡ word l w r → Bodied (b ∷ s) l w r
+    go true q h = colon-fits c (front isNameByte c) (behind isNameByte c) l w r (front-behind isNameByte c) q h
     go false q h =
-        let k = lined-word [] (tried forms (b ∷ s)) l w r h in
-        record {
-          start = [];
-          body = b ∷ s;
-          labelled = inl (refl, sym (k .label));
-          instructs = instruction-exact (b ∷ s) w r .0 (k .reads);
-          text = refl;
-        }
+        let k = lined-word [] (tried forms c) l w r h in
+        record { start = []; body = c; labelled = inl (refl, sym (k .0)); instructs = instruction-exact c w r .0 (k .1); text = refl }
 
 line-fits : (s l : List ℕ) (w : ℕ) (r : List ℕ) → readLine s ≡ word l w r → WordLine s l w r
 unfolding readLine

@@ -11,7 +11,7 @@ use mathlib.Core.List.{List, [], _∷_, _++_, map, append-assoc}
 use borrow.Author.Tests.{eqb-true, eq-eqb, ne-eqb, ltb-true, not-true}
 use lib.Dec.{eqb, ltb}
 use lib.ListN.{length, getD, drop, drop-of-length-le}
-use lib.Seq.{drop-cons}
+use lib.Seq.{ext-getD}
 use Rattle.isa.specs.Text.{ascii, spaced}
 use Rattle.isa.specs.Word.{decodeWord, digitW, digitX, digitY, digitZ, byteYZ}
 use Rattle.isa.specs.Format.{hexDigit, fill, decimal}
@@ -21,11 +21,11 @@ use Rattle.listing.specs.Listing.{listingWords, refers, refersTo, referenced, l
 use Rattle.listing.specs.Listing.{wordsText, headStart, headEnd, headOf, listingOf}
 use Rattle.assemble.specs.Grammar.{all, isNameByte, digitIn, Form, forms, formAt, Instruction}
 use Rattle.assemble.specs.Lines.{Comment, EmptyLine, WordLine, Line, empty, word}
-use Rattle.assemble.specs.Assembly.{lines, labelsOf, wordsOf, refersOf, FitLines, Stands, Once, Standing, Accepted, key, refusal, placed, resolved, resolveAll, linesImage, image}
+use Rattle.assemble.specs.Assembly.{lines, labelsOf, wordsOf, refersOf, FitLines, Stands, Once, Standing, Accepted, refusal, image, Image}
 use Rattle.assemble.proofs.Scans.{digit-read, digit-name, label-bytes}
 use Rattle.assemble.proofs.Instructions.{eachForm, each-form}
 use Rattle.assemble.proofs.Exact.{all-append, without, no-name, no-made}
-use Rattle.assemble.proofs.Texts.{Keyed, key-same, key-none, accepted-served, accepted-image}
+use Rattle.assemble.proofs.Texts.{accepted-served, accepted-image}
 use Rattle.assemble.proofs.Listed.{labelOf, label-is, low-byte, wordPart, labelIf, column-fits}
 
 -- ---- no byte of a line is a line feed
@@ -267,6 +267,10 @@ module _ (ws : List ℕ) (few : length ws ≤ listingWords) (fit : (a : ℕ) →
   abbrev bodyAt : ℕ → List ℕ
   bodyAt a = bodyOf (length ws) (labelled ws a) a (at a)
 
+  -- the lines of the listing, with its head
+  abbrev listed : List Line
+  listed = empty ∷ empty ∷ empty ∷ empty ∷ listFrom lineAt 0 (length ws)
+
   lines-from : (i k : ℕ) → lines (eachFrom (lineOf ws) i k) ≡ listFrom bodyAt i k
   unfolding eachFrom lines lineOf
   lines-from i zero = refl
@@ -290,6 +294,13 @@ module _ (ws : List ℕ) (few : length ws ≤ listingWords) (fit : (a : ℕ) →
   refers-from : (i k : ℕ) → refersOf (listFrom lineAt i k) ≡ listFrom referAt i k
   refers-from i zero = refl
   refers-from i (suc k) = ap (λ (x : List (List ℕ)). referAt i ∷ x) (refers-from (suc i) k)
+
+  -- what stands at an address
+  worded : (i : ℕ) → i < length ws → getD (wordsOf listed) i 0 ≡ wordAt i
+  worded i h = rw (words-from 0 (length ws)) (getD-from wordAt 0 (length ws) i 0 h ∙ ap wordAt (zero-add i))
+
+  referred : (i : ℕ) → i < length ws → getD (refersOf listed) i [] ≡ referAt i
+  referred i h = rw (refers-from 0 (length ws)) (getD-from referAt 0 (length ws) i [] h ∙ ap referAt (zero-add i))
 
   -- a label that is there is its address's
   one-place : (a b : ℕ) → b < 256 → (u v : Bool) → (labelIf u a ≡ [] → ⊥) → a < 256 → labelIf v b ≡ labelIf u a → b ≡ a
@@ -326,9 +337,6 @@ module _ (ws : List ℕ) (few : length ws ≤ listingWords) (fit : (a : ℕ) →
   standing-from i zero h = tt
   standing-from i (suc k) h = (λ s. standing-at i (omega arith) (refer i) refl s, standing-from (suc i) k (omega arith))
 
-  abbrev listed : List Line
-  listed = empty ∷ empty ∷ empty ∷ empty ∷ listFrom lineAt 0 (length ws)
-
   all-lines : lines (listingOf ws) ≡ first (length ws) ∷ second ∷ third ∷ [] ∷ listFrom bodyAt 0 (length ws)
   unfolding listingOf
   all-lines = head-lines (length ws) (eachFrom (lineOf ws) 0 (length ws)) ∙ ap (λ (x : List (List ℕ)). first (length ws) ∷ second ∷ third ∷ [] ∷ x) (lines-from 0 (length ws))
@@ -349,64 +357,25 @@ module _ (ws : List ℕ) (few : length ws ≤ listingWords) (fit : (a : ℕ) →
 
   -- ---- the image
 
-  resolve-from : (ks : List ℕ) (i k : ℕ) → resolveAll ks (listFrom wordAt i k) (map key (listFrom referAt i k)) ≡ listFrom (λ (a : ℕ). resolved ks (wordAt a) (key (referAt a))) i k
-  unfolding resolveAll
-  resolve-from ks i zero = refl
-  resolve-from ks i (suc k) = ap (λ (x : List ℕ). resolved ks (wordAt i) (key (referAt i)) ∷ x) (resolve-from ks (suc i) k)
-
-  label-keyed : (v : Bool) (a : ℕ) → Keyed (labelIf v a)
-  label-keyed true a = label-bytes (labelOf a) (label-is a)
-  label-keyed false a = refl
-
-  -- the first label equal to l stands at i + j
-  placed-from : (l : List ℕ) (i k j : ℕ) → Keyed l → j < k → labelAt (i + j) ≡ l → ((m : ℕ) → m < j → labelAt (i + m) ≡ l → ⊥) → placed (key l) (map key (listFrom labelAt i k)) ≡ j
-  unfolding placed
-  placed-from l i zero j q h e f = absurd (omega arith)
-  placed-from l i (suc k) zero q h e f = rw (eq-eqb (key (labelAt i)) (key l) (ap key (ap labelAt (sym (add-zero i)) ∙ e)))
-  placed-from l i (suc k) (suc j) q h e f =
-      let u : eqb (key (labelAt i)) (key l) ≡ false = ne-eqb (key (labelAt i)) (key l) (λ x. f 0 (omega arith) (ap labelAt (add-zero i) ∙ key-same (labelAt i) l (label-keyed (labelled ws i) i) q x)) in
-      rw u (ap suc (placed-from l (suc i) k j q (omega arith) (ap labelAt (suc-add i j ∙ sym (add-suc i j)) ∙ e) (λ m x y. f (suc m) (omega arith) (ap labelAt (add-suc i m ∙ sym (suc-add i m)) ∙ y))))
-
-  key-label : (w : ℕ) → eqb (key (labelOf w)) 0 ≡ false
-  key-label w = ne-eqb (key (labelOf w)) 0 (λ q. label-there w (key-none (labelOf w) (label-bytes (labelOf w) (label-is w)) q))
-
-  abbrev keys : List ℕ
-  keys = map key (listFrom labelAt 0 (length ws))
-
-  restored : (a : ℕ) → a < length ws → (v : Bool) → refer a ≡ v
-      → wordPart v (at a) + cond (eqb (key (labelIf v (at a))) 0) 0 (placed (key (labelIf v (at a))) keys) ≡ at a
-  unfolding key
-  restored a h false e = omega arith
-  restored a h true e =
-      let p = refer-place a h e in
-      let w = at a in
-      let y = byteYZ (at a) in
-      let l : List ℕ = labelOf (at a) in
-      let d : placed (key l) keys ≡ y =
-      placed-from l 0 (length ws) y (label-bytes l (label-is w)) (p .0) (ap labelAt (zero-add y) ∙ p .1)
-      (λ m x z.
-      let s : labelAt m ≡ labelIf true y = ap labelAt (sym (zero-add m)) ∙ z ∙ sym (label-low w) in
-      let t : m ≡ y = one-place y m (omega arith) true (labelled ws m) (λ o. label-there y o) (omega arith) s in
-      omega arith) in
-      rw (key-label w, d) (omega (arith, div-add-mod' w 256))
-
-  restored-from : (i k : ℕ) → i + k ≤ length ws → listFrom (λ (a : ℕ). resolved keys (wordAt a) (key (referAt a))) i k ≡ listFrom at i k
-  restored-from i zero h = refl
-  restored-from i (suc k) h = λ j. restored i (omega arith) (refer i) refl j ∷ restored-from (suc i) k (omega arith) j
-
--- a list from its places
-all-places : (ws xs : List ℕ) (i k : ℕ) → i + k ≡ length ws → drop i ws ≡ xs → listFrom (λ (a : ℕ). getD ws a 0) i k ≡ xs
-all-places ws xs i zero h e = sym (drop-of-length-le ws {i = i} (omega arith)) ∙ e
-all-places ws xs i (suc k) h e =
-    let q : drop i ws ≡ getD ws i 0 ∷ drop (suc i) ws = drop-cons ws i 0 (omega arith) in
-    ap (λ (x : List ℕ). getD ws i 0 ∷ x) (all-places ws (drop (suc i) ws) (suc i) k (omega arith) refl) ∙ sym q ∙ e
+  -- a word without the address that it refers to, and that address
+  restored : (ws′ : List ℕ) → Image listed ws′ → (i : ℕ) → i < length ws → (v : Bool) → refer i ≡ v → getD ws′ i 0 ≡ at i
+  restored ws′ m i h false e =
+      let w : wordAt i ≡ at i = ap (λ (b : Bool). wordPart b (at i)) e in
+      m .plain i (referred i h ∙ ap (λ (b : Bool). labelIf b (at i)) e) ∙ worded i h ∙ w
+  restored ws′ m i h true e =
+      let y = byteYZ (at i) in
+      let p = refer-place i h e in
+      let r : getD (refersOf listed) i [] ≡ labelOf (at i) = referred i h ∙ ap (λ (b : Bool). labelIf b (at i)) e in
+      let l : getD (labelsOf listed) y [] ≡ labelOf (at i) = rw (labels-from 0 (length ws)) (getD-from labelAt 0 (length ws) y [] (p .0) ∙ ap labelAt (zero-add y) ∙ p .1) in
+      let w : wordAt i ≡ at i - y = ap (λ (b : Bool). wordPart b (at i)) e in
+      let n : length ws′ ≡ length ws = m .long ∙ rw (words-from 0 (length ws)) (length-from wordAt 0 (length ws)) in
+      m .linked i y (λ q. label-there (at i) (sym r ∙ q)) (omega (arith, n, p .0)) (l ∙ sym r) ∙ ap (λ (x : ℕ). x + y) (worded i h ∙ w) ∙ omega (arith, div-add-mod' (at i) 256)
 
 -- assembling the listing of an image of at most 256 words gives that image
 pub round-trip : (ws : List ℕ) → length ws ≤ listingWords → ((a : ℕ) → getD ws a 0 < 65536) → (refusal (listingOf ws) ≡ 0) × (image (listingOf ws) ≡ ws)
-unfolding linesImage
 round-trip ws few fit =
     let a = listing-accepted ws few fit in
-    let n = length ws in
-    let e : linesImage (listed ws few fit) ≡ listFrom (λ (i : ℕ). getD ws i 0) 0 (length ws) =
-    rw (labels-from ws few fit 0 n, words-from ws few fit 0 n, refers-from ws few fit 0 n) (resolve-from ws few fit (keys ws few fit) 0 n ∙ restored-from ws few fit 0 n (omega arith)) in
-    (accepted-served (listingOf ws) (listed ws few fit) a .0, accepted-image (listingOf ws) (listed ws few fit) a ∙ e ∙ all-places ws ws 0 (length ws) (omega arith) refl)
+    let m = accepted-image (listingOf ws) (listed ws few fit) a in
+    let n : length (image (listingOf ws)) ≡ length ws = m .long ∙ rw (words-from ws few fit 0 (length ws)) (length-from (wordAt ws few fit) 0 (length ws)) in
+    (accepted-served (listingOf ws) (listed ws few fit) a .0,
+    ext-getD 0 (image (listingOf ws)) ws n (λ i h. restored ws few fit (image (listingOf ws)) m i (omega (arith, h, n)) (refer ws few fit i) refl))

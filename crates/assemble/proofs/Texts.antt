@@ -12,10 +12,11 @@ use lib.ListN.{length, getD}
 use Rattle.encoding.specs.Bytes.{member}
 use Rattle.assemble.specs.Grammar.{all, isNameByte, Token, letter, blank, digit, name, forms, formAt, referred, Instruction}
 use Rattle.assemble.specs.Lines.{Line, bad, empty, word, Prefix, readLine}
-use Rattle.assemble.specs.Assembly.{lines, labelsOf, wordsOf, refersOf, FitLine, FitLines, Stands, Once, Standing, Accepted, faulty, key, doubled, missing, unless, linesRefusal, refusal, linesImage, image}
+use Rattle.assemble.specs.Assembly.{lines, labelsOf, wordsOf, refersOf, FitLine, FitLines, Stands, Once, Standing, Accepted, faulty, key, doubled, missing, unless, linesRefusal, refusal, placed, resolved, resolveAll, linesImage, image, Image}
 use Rattle.isa.proofs.Truths.{both}
 use Rattle.assemble.proofs.Scans.{false-true, label-bytes}
 use Rattle.assemble.proofs.Exact.{word-line-exact, empty-line-exact}
+use Rattle.assemble.proofs.Linking.{length-resolved}
 
 -- ---- keys
 
@@ -245,7 +246,74 @@ served-accepted t e =
 pub accepted-exact : (t : List ℕ) → (refusal t ≡ 0) ↔ ((ls : List Line) × Accepted t ls)
 accepted-exact t = (λ e. (map readLine (lines t), served-accepted t e), λ a. accepted-served t (a .0) (a .1) .0)
 
--- and the image is the one that those lines give
-pub accepted-image : (t : List ℕ) (ls : List Line) → Accepted t ls → image t ≡ linesImage ls
-unfolding image
-accepted-image t ls a = ap linesImage (accepted-served t ls a .1)
+-- ---- the image
+
+pub even-lines : (ls : List Line) → (length (refersOf ls) ≡ length (wordsOf ls)) × (length (labelsOf ls) ≡ length (wordsOf ls))
+even-lines [] = (refl, refl)
+even-lines (bad ∷ ls) = even-lines ls
+even-lines (empty ∷ ls) = even-lines ls
+even-lines (word l w r ∷ ls) = let k = even-lines ls in (ap suc (k .0), ap suc (k .1))
+
+key-at : (ls : List (List ℕ)) (i : ℕ) → getD (map key ls) i 0 ≡ key (getD ls i [])
+unfolding key
+key-at [] i = refl
+key-at (l ∷ ls) zero = refl
+key-at (l ∷ ls) (suc i) = key-at ls i
+
+keyed-at : (ls : List (List ℕ)) (i : ℕ) → AllKeyed ls → Keyed (getD ls i [])
+keyed-at [] i k = refl
+keyed-at (l ∷ ls) zero k = k .0
+keyed-at (l ∷ ls) (suc i) k = keyed-at ls i (k .1)
+
+-- the first place of a label that stands on no two lines
+placed-at : (ls : List (List ℕ)) (r : List ℕ) (j : ℕ) → AllKeyed ls → Keyed r → Once ls → (r ≡ [] → ⊥) → j < length ls → getD ls j [] ≡ r → placed (key r) (map key ls) ≡ j
+unfolding placed
+placed-at [] r j k h o n l e = absurd (omega arith)
+placed-at (x ∷ ls) r zero k h o n l e = rw (eq-eqb (key x) (key r) (ap key e))
+placed-at (x ∷ ls) r (suc j) k h o n l e =
+    let other : key x ≡ key r → ⊥ = λ q. let s = key-same x r (k .0) h q in o .0 (λ z. n (sym s ∙ z)) (j, omega arith, e ∙ sym s) in
+    rw (ne-eqb (key x) (key r) other) (ap suc (placed-at ls r j (k .1) h (o .1) n (omega arith) e))
+
+resolved-at : (ks ws rs : List ℕ) (i : ℕ) → length rs ≡ length ws → getD (resolveAll ks ws rs) i 0 ≡ resolved ks (getD ws i 0) (getD rs i 0)
+unfolding resolveAll
+resolved-at ks [] [] i e = refl
+resolved-at ks [] (r ∷ rs) i e = absurd (omega arith)
+resolved-at ks (w ∷ ws) [] i e = absurd (omega arith)
+resolved-at ks (w ∷ ws) (r ∷ rs) zero e = refl
+resolved-at ks (w ∷ ws) (r ∷ rs) (suc i) e = resolved-at ks ws rs i (omega arith)
+
+pub length-map-key : (ls : List (List ℕ)) → length (map key ls) ≡ length ls
+length-map-key [] = refl
+length-map-key (l ∷ ls) = ap suc (length-map-key ls)
+
+-- the image of an accepted text is the one that its lines say
+pub accepted-image : (t : List ℕ) (ls : List Line) → Accepted t ls → Image ls (image t)
+unfolding image linesImage key
+accepted-image t ls a = rw (accepted-served t ls a .1) (record { long = long; plain = plain; linked = linked })
+  where
+    ks : List ℕ
+    ks = map key (labelsOf ls)
+
+    rs : List ℕ
+    rs = map key (refersOf ls)
+
+    even : length rs ≡ length (wordsOf ls)
+    even = length-map-key (refersOf ls) ∙ even-lines ls .0
+
+    long : length (resolveAll ks (wordsOf ls) rs) ≡ length (wordsOf ls)
+    long = length-resolved ks (wordsOf ls) rs even
+
+    at : (i : ℕ) → getD (resolveAll ks (wordsOf ls) rs) i 0 ≡ resolved ks (getD (wordsOf ls) i 0) (key (getD (refersOf ls) i []))
+    at i = resolved-at ks (wordsOf ls) rs i even ∙ ap (resolved ks (getD (wordsOf ls) i 0)) (key-at (refersOf ls) i)
+
+    plain : (i : ℕ) → getD (refersOf ls) i [] ≡ [] → getD (resolveAll ks (wordsOf ls) rs) i 0 ≡ getD (wordsOf ls) i 0
+    plain i e = at i ∙ ap (λ (l : List ℕ). resolved ks (getD (wordsOf ls) i 0) (key l)) e ∙ omega arith
+
+    linked : (i j : ℕ) → (getD (refersOf ls) i [] ≡ [] → ⊥) → j < length (resolveAll ks (wordsOf ls) rs) → getD (labelsOf ls) j [] ≡ getD (refersOf ls) i []
+        → getD (resolveAll ks (wordsOf ls) rs) i 0 ≡ getD (wordsOf ls) i 0 + j
+    linked i j n h e =
+        let k = labels-keyed (lines t) ls (a .fit) in
+        let r = getD (refersOf ls) i [] in
+        let y : Keyed r = keyed-at (refersOf ls) i (k .1) in
+        let p : placed (key r) ks ≡ j = placed-at (labelsOf ls) r j (k .0) y (a .once) n (omega (arith, h, long, even-lines ls .1)) e in
+        at i ∙ rw (key-some r y n, p)

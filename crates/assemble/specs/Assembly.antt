@@ -74,6 +74,12 @@ pub record Accepted (t : List ℕ) (ls : List Line) : Type 0 where
   pub once : Once (labelsOf ls)
   pub standing : Standing (refersOf ls) (labelsOf ls)
 
+-- the image that the lines say: a word as it is, or, where it refers to a label, with the address at which that stands
+pub record Image (ls : List Line) (ws : List ℕ) : Type 0 where
+  pub long : length ws ≡ length (wordsOf ls)
+  pub plain : (i : ℕ) → getD (refersOf ls) i [] ≡ [] → getD ws i 0 ≡ getD (wordsOf ls) i 0
+  pub linked : (i j : ℕ) → (getD (refersOf ls) i [] ≡ [] → ⊥) → j < length ws → getD (labelsOf ls) j [] ≡ getD (refersOf ls) i [] → getD ws i 0 ≡ getD (wordsOf ls) i 0 + j
+
 -- ---- what is refused
 
 -- 11 at the first line that breaks the grammar, 13 at the first word too many, whichever comes first: the words so far, the lines
