@@ -19,8 +19,9 @@
 /* The version of these calls. It rises where a call, a record or a number
  * changes. No call answers it, so it speaks for this header alone. Version 2 has
  * the word behind the disassembly of 12,015 words (massey_disassemble); in
- * version 3 a register that an instruction clears is open (massey_mark). */
-#define MASSEY_VERSION 3
+ * version 3 a register that an instruction clears is open (massey_mark); version
+ * 4 has massey_assemble, and those 12,015 words as .word in a listing. */
+#define MASSEY_VERSION 4
 
 /* The stack that is enough for any of the calls. Measured, massey_report takes
  * 48,608 bytes and massey_listing 4,472. */
@@ -43,6 +44,12 @@
 #define MASSEY_LISTING_LINE 45
 #define MASSEY_LISTING_LENGTH 11709
 
+/* Assembling: the bytes of the longest image, that of 256 words. A buffer of that
+ * length is never too short. A text may have any length. A label is L and so many
+ * letters or digits at most. */
+#define MASSEY_IMAGE_LENGTH 512
+#define MASSEY_LABEL 6
+
 /* A guarded run: the most breakpoints, and the largest budget. It has a mark
  * for each word of memory, whatever the image's length. */
 #define MASSEY_BREAKPOINTS 256
@@ -55,16 +62,22 @@
 #define MASSEY_TRACE 512
 
 /* ---- refusals: a refused call answers minus one of these, and where several
- * hold, the lowest. massey_disassemble can be refused 5, massey_listing 1, 5
- * and 6, massey_report 1 to 6. */
+ * hold, the lowest, but for massey_assemble, where the text's refusals go before
+ * 5 and its first faulty line decides. massey_disassemble can be refused 5,
+ * massey_listing 1, 5 and 6, massey_assemble 5, 11, 12 and 13, massey_report 1 to
+ * 6. */
 enum massey_refusal {
     MASSEY_REFUSED_IMAGE = 1,       /* an image over 256 words */
     MASSEY_REFUSED_MARKS = 2,       /* a mark that is not 0 or 1 */
     MASSEY_REFUSED_BREAKPOINTS = 3, /* over 256 breakpoints */
     MASSEY_REFUSED_BUDGET = 4,      /* a budget over 1,000,000 */
     MASSEY_REFUSED_BUFFER = 5,      /* an output buffer that is too short */
-    MASSEY_REFUSED_INPUT = 6        /* an input shorter or longer than its
+    MASSEY_REFUSED_INPUT = 6,       /* an input shorter or longer than its
                                        counts say, or an odd byte (listing) */
+    MASSEY_REFUSED_GRAMMAR = 11,    /* a line that breaks the grammar */
+    MASSEY_REFUSED_LABEL = 12,      /* a label that stands on two lines, or is
+                                       used and stands on none */
+    MASSEY_REFUSED_WORDS = 13       /* a line with the 257th word */
 };
 
 /* ---- marks: one byte for each address in the input, and one in each record of
@@ -141,7 +154,7 @@ extern "C" {
  * has under 32 bytes. Where the word has a digit that its instruction does not
  * use and that is not 0, the text ends in " ; " and the word, as
  * "LOAD R1, R2 ; 2F12": two words have equal texts only where they are equal.
- * Listings and kind 02 have the same texts. */
+ * Kind 02 has the same texts; a listing has .word for such a word. */
 int64_t massey_disassemble(uint16_t word, uint8_t *out, size_t out_len);
 
 /* Writes the listing of the image's words to the start of out, keeps the bytes
@@ -149,6 +162,17 @@ int64_t massey_disassemble(uint16_t word, uint8_t *out, size_t out_len);
  * -5 where out is shorter than the listing, else -6 where a byte is left over. */
 int64_t massey_listing(const uint8_t *image, size_t image_len, uint8_t *out,
                        size_t out_len);
+
+/* Assembles a text, as an edited listing is, and writes the words of its image to
+ * the start of out, 2 bytes each, keeps the bytes past them, and answers their
+ * length, at most 512; 0 for a text without instructions. The first faulty line
+ * decides: -11 where it breaks the grammar, else -13 where it has the 257th word,
+ * and what stands behind it is not looked at. Where no line is faulty: -12 for a
+ * label on two lines, or one that is used and stands on none; else -5 where out
+ * is shorter than the image. What massey_listing writes is assembled to the very
+ * words that were listed. docs/FORMATS.md, 'The assembler', has the grammar. */
+int64_t massey_assemble(const uint8_t *text, size_t text_len, uint8_t *out,
+                        size_t out_len);
 
 /* Makes a guarded run and writes its report to the start of out, keeps the bytes
  * past it, and answers its length, at most 33,930. The input is that of the
