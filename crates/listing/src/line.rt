@@ -22,13 +22,12 @@ use isa::format;
 fn other_text(word: u16) -> Text
     ensures { λ r. ⌜ r ≡ text (otherText word) ⌝ }
 {
-    let i = Instruction::from_word(word);
-    if i.unused_nibbles() != 0 {
-        return format(b".word Wxyz", word);
-    }
-    let Decoded::Known(_) = i.opcode() else {
+    let Decoded::Known(opcode) = Instruction::from_word(word).opcode() else {
         return format(b".word Wxyz", word);
     };
+    if opcode.unused(word) != 0 {
+        return format(b".word Wxyz", word);
+    }
     disassemble(word)
 }
 
