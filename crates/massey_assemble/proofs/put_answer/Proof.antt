@@ -35,7 +35,7 @@ returns-2 c =
     let g = c .before .before .before .before in
     let s = g .before .before .before .before .args in
     let w : s .whole ≡ true = not-false (s .whole) (g .before .if1 .left) in
-    rw w (too-long (now (s .text)) (now (s .out)) (g .if2 .taken) (c .before .before .put-refusal2 .ensures))
+    rw w (too-long (now (s .text)) (now (s .out)) (omega (arith, g .if2 .taken)) (c .before .before .put-refusal2 .ensures))
 
 assemble-bytes-requires : tie.Need-assemble-bytes-requires
 assemble-bytes-requires c κs = search needs
