@@ -27,7 +27,7 @@ use Rattle.assemble.specs.declared.Built.the-variants.{Written, Refused}
 use Rattle.assemble.proofs.Scans.{rest-digits}
 use Rattle.isa.proofs.Truths.{below, tested}
 use Rattle.assemble.proofs.Exact.{word-line-exact}
-use Rattle.assemble.proofs.Texts.{served-accepted, accepted-served, even-lines, length-map-key, accepted-image}
+use Rattle.assemble.proofs.Texts.{served-accepted, accepted-served, even-labels, even-refers, accepted-image}
 use Rattle.assemble.proofs.RoundTrip.{round-trip}
 use Rattle.assemble.proofs.Linking.{answered-refused, length-resolved}
 
@@ -121,12 +121,11 @@ module _ (t : List ℕ) (n : ℕ) (ws ks rs : List ℕ) (h : Held (linesFrom t 0
   pub held-linkable : Linkable (take n ws) (take n ks) (take n rs)
   held-linkable =
       let ls = linesFrom t 0 in
-      let v = even-lines ls in
       let m : length (wordsOf ls) ≤ 256 = rw (← h .words, length-take) (omega (arith, h .few)) in
       rw (h .words, h .labels, h .refers) (record {
         few = m;
-        even = length-map-key (refersOf ls) ∙ v .0;
-        small = λ i g. resolved-small (map key (labelsOf ls)) (getD (wordsOf ls) i 0) (getD (map key (refersOf ls)) i 0) (omega (arith, length-map-key (labelsOf ls), v .1, m)) (lines-small (lines t) i);
+        even = even-refers ls;
+        small = λ i g. resolved-small (map key (labelsOf ls)) (getD (wordsOf ls) i 0) (getD (map key (refersOf ls)) i 0) (omega (arith, even-labels ls, m)) (lines-small (lines t) i);
       })
 
   pub held-answer : 0 ≡ faulty 0 (linesFrom t 0) → linked (take n ws) (take n ks) (take n rs) ≡ assembled t
@@ -153,7 +152,6 @@ module _ (ws ks rs : List ℕ) where
   unfolding linked resolvedAs
   linked-once e = rw e
 
-
 -- ---- what a caller reads off the answer
 
 pub image-few : (t : List ℕ) → refusal t ≡ 0 → length (image t) ≤ 256
@@ -161,7 +159,7 @@ unfolding image linesImage
 image-few t e =
     let ls : List Line = map readLine (lines t) in
     let f = served-accepted t e .few in
-    rw (length-resolved (map key (labelsOf ls)) (wordsOf ls) (map key (refersOf ls)) (length-map-key (refersOf ls) ∙ even-lines ls .0)) f
+    rw (length-resolved (map key (labelsOf ls)) (wordsOf ls) (map key (refersOf ls)) (even-refers ls)) f
 
 -- the answer a has the words of an accepted text's image in front
 module _ (t : List ℕ) (a : Assembled) (e : a ≡ assembled t) where

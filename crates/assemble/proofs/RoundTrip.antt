@@ -21,7 +21,7 @@ use Rattle.listing.specs.Listing.{listingWords, refers, refersTo, referenced, l
 use Rattle.listing.specs.Listing.{wordsText, headStart, headEnd, headOf, listingOf}
 use Rattle.assemble.specs.Grammar.{all, isNameByte, digitIn, Form, forms, formAt, Instruction}
 use Rattle.assemble.specs.Lines.{Comment, EmptyLine, WordLine, Line, empty, word}
-use Rattle.assemble.specs.Assembly.{lines, labelsOf, wordsOf, refersOf, FitLines, Stands, Once, Standing, Accepted, refusal, image, Image}
+use Rattle.assemble.specs.Assembly.{lines, ofWords, labelsOf, wordsOf, refersOf, FitLines, Stands, Once, Standing, Accepted, refusal, image, Image}
 use Rattle.assemble.proofs.Scans.{digit-read, digit-name, label-bytes}
 use Rattle.assemble.proofs.Instructions.{eachForm, each-form}
 use Rattle.assemble.proofs.Exact.{all-append, without, no-name, no-made}
@@ -283,24 +283,26 @@ module _ (ws : List ℕ) (few : length ws ≤ listingWords) (fit : (a : ℕ) →
   fits-from i zero = tt
   fits-from i (suc k) = (line-fits (length ws) (labelled ws i) i (at i) (fit i), fits-from (suc i) k)
 
-  labels-from : (i k : ℕ) → labelsOf (listFrom lineAt i k) ≡ listFrom labelAt i k
-  labels-from i zero = refl
-  labels-from i (suc k) = ap (λ (x : List (List ℕ)). labelAt i ∷ x) (labels-from (suc i) k)
+  -- what is wanted of these lines
+  of-from : {A : Type 0} (f : List ℕ → ℕ → List ℕ → A) (i k : ℕ) → ofWords f (listFrom lineAt i k) ≡ listFrom (λ (a : ℕ). f (labelAt a) (wordAt a) (referAt a)) i k
+  of-from f i zero = refl
+  of-from f i (suc k) = λ j. f (labelAt i) (wordAt i) (referAt i) ∷ of-from f (suc i) k j
 
-  words-from : (i k : ℕ) → wordsOf (listFrom lineAt i k) ≡ listFrom wordAt i k
-  words-from i zero = refl
-  words-from i (suc k) = ap (λ (x : List ℕ). wordAt i ∷ x) (words-from (suc i) k)
+  labels-from : labelsOf listed ≡ listFrom labelAt 0 (length ws)
+  labels-from = of-from (λ l w r. l) 0 (length ws)
 
-  refers-from : (i k : ℕ) → refersOf (listFrom lineAt i k) ≡ listFrom referAt i k
-  refers-from i zero = refl
-  refers-from i (suc k) = ap (λ (x : List (List ℕ)). referAt i ∷ x) (refers-from (suc i) k)
+  words-from : wordsOf listed ≡ listFrom wordAt 0 (length ws)
+  words-from = of-from (λ l w r. w) 0 (length ws)
+
+  refers-from : refersOf listed ≡ listFrom referAt 0 (length ws)
+  refers-from = of-from (λ l w r. r) 0 (length ws)
 
   -- what stands at an address
   worded : (i : ℕ) → i < length ws → getD (wordsOf listed) i 0 ≡ wordAt i
-  worded i h = rw (words-from 0 (length ws)) (getD-from wordAt 0 (length ws) i 0 h ∙ ap wordAt (zero-add i))
+  worded i h = rw words-from (getD-from wordAt 0 (length ws) i 0 h ∙ ap wordAt (zero-add i))
 
   referred : (i : ℕ) → i < length ws → getD (refersOf listed) i [] ≡ referAt i
-  referred i h = rw (refers-from 0 (length ws)) (getD-from referAt 0 (length ws) i [] h ∙ ap referAt (zero-add i))
+  referred i h = rw refers-from (getD-from referAt 0 (length ws) i [] h ∙ ap referAt (zero-add i))
 
   -- a label that is there is its address's
   one-place : (a b : ℕ) → b < 256 → (u v : Bool) → (labelIf u a ≡ [] → ⊥) → a < 256 → labelIf v b ≡ labelIf u a → b ≡ a
@@ -350,9 +352,9 @@ module _ (ws : List ℕ) (few : length ws ≤ listingWords) (fit : (a : ℕ) →
   pub listing-accepted : Accepted (listingOf ws) listed
   listing-accepted = record {
     fit = rw all-lines (head-fits (listFrom bodyAt 0 (length ws)) (listFrom lineAt 0 (length ws)) (fits-from 0 (length ws)));
-    few = rw (words-from 0 (length ws), length-from wordAt 0 (length ws)) few;
-    once = rw (labels-from 0 (length ws)) (once-from 0 (length ws) (omega arith));
-    standing = rw (refers-from 0 (length ws), labels-from 0 (length ws)) (standing-from 0 (length ws) (omega arith));
+    few = rw (words-from, length-from wordAt 0 (length ws)) few;
+    once = rw labels-from (once-from 0 (length ws) (omega arith));
+    standing = rw (refers-from, labels-from) (standing-from 0 (length ws) (omega arith));
   }
 
   -- ---- the image
@@ -366,9 +368,9 @@ module _ (ws : List ℕ) (few : length ws ≤ listingWords) (fit : (a : ℕ) →
       let y = byteYZ (at i) in
       let p = refer-place i h e in
       let r : getD (refersOf listed) i [] ≡ labelOf (at i) = referred i h ∙ ap (λ (b : Bool). labelIf b (at i)) e in
-      let l : getD (labelsOf listed) y [] ≡ labelOf (at i) = rw (labels-from 0 (length ws)) (getD-from labelAt 0 (length ws) y [] (p .0) ∙ ap labelAt (zero-add y) ∙ p .1) in
+      let l : getD (labelsOf listed) y [] ≡ labelOf (at i) = rw labels-from (getD-from labelAt 0 (length ws) y [] (p .0) ∙ ap labelAt (zero-add y) ∙ p .1) in
       let w : wordAt i ≡ at i - y = ap (λ (b : Bool). wordPart b (at i)) e in
-      let n : length ws′ ≡ length ws = m .long ∙ rw (words-from 0 (length ws)) (length-from wordAt 0 (length ws)) in
+      let n : length ws′ ≡ length ws = m .long ∙ rw words-from (length-from wordAt 0 (length ws)) in
       m .linked i y (λ q. label-there (at i) (sym r ∙ q)) (omega (arith, n, p .0)) (l ∙ sym r) ∙ ap (λ (x : ℕ). x + y) (worded i h ∙ w) ∙ omega (arith, div-add-mod' (at i) 256)
 
 -- assembling the listing of an image of at most 256 words gives that image
@@ -376,6 +378,7 @@ pub round-trip : (ws : List ℕ) → length ws ≤ listingWords → ((a : ℕ) �
 round-trip ws few fit =
     let a = listing-accepted ws few fit in
     let m = accepted-image (listingOf ws) (listed ws few fit) a in
-    let n : length (image (listingOf ws)) ≡ length ws = m .long ∙ rw (words-from ws few fit 0 (length ws)) (length-from (wordAt ws few fit) 0 (length ws)) in
-    (accepted-served (listingOf ws) (listed ws few fit) a .0,
-    ext-getD 0 (image (listingOf ws)) ws n (λ i h. restored ws few fit (image (listingOf ws)) m i (omega (arith, h, n)) (refer ws few fit i) refl))
+    let n : length (image (listingOf ws)) ≡ length ws = m .long ∙ rw (words-from ws few fit) (length-from (wordAt ws few fit) 0 (length ws)) in (
+      accepted-served (listingOf ws) (listed ws few fit) a .0,
+      ext-getD 0 (image (listingOf ws)) ws n (λ i h. restored ws few fit (image (listingOf ws)) m i (omega (arith, h, n)) (refer ws few fit i) refl),
+    )

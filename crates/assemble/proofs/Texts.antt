@@ -12,7 +12,7 @@ use lib.ListN.{length, getD}
 use Rattle.encoding.specs.Bytes.{member}
 use Rattle.assemble.specs.Grammar.{all, isNameByte, Token, letter, blank, digit, name, forms, formAt, referred, Instruction}
 use Rattle.assemble.specs.Lines.{Line, bad, empty, word, Prefix, readLine}
-use Rattle.assemble.specs.Assembly.{lines, labelsOf, wordsOf, refersOf, FitLine, FitLines, Stands, Once, Standing, Accepted, faulty, key, doubled, missing, unless, linesRefusal, refusal, placed, resolved, resolveAll, linesImage, image, Image}
+use Rattle.assemble.specs.Assembly.{lines, ofWords, labelsOf, wordsOf, refersOf, FitLine, FitLines, Stands, Once, Standing, Accepted, faulty, key, doubled, missing, unless, linesRefusal, refusal, placed, resolved, resolveAll, linesImage, image, Image}
 use Rattle.isa.proofs.Truths.{both}
 use Rattle.assemble.proofs.Scans.{false-true, label-bytes}
 use Rattle.assemble.proofs.Exact.{word-line-exact, empty-line-exact}
@@ -248,11 +248,22 @@ accepted-exact t = (λ e. (map readLine (lines t), served-accepted t e), λ a. a
 
 -- ---- the image
 
-pub even-lines : (ls : List Line) → (length (refersOf ls) ≡ length (wordsOf ls)) × (length (labelsOf ls) ≡ length (wordsOf ls))
-even-lines [] = (refl, refl)
-even-lines (bad ∷ ls) = even-lines ls
-even-lines (empty ∷ ls) = even-lines ls
-even-lines (word l w r ∷ ls) = let k = even-lines ls in (ap suc (k .0), ap suc (k .1))
+-- as many as there are words
+of-length : {A : Type 0} (f : List ℕ → ℕ → List ℕ → A) (ls : List Line) → length (ofWords f ls) ≡ length (wordsOf ls)
+of-length f [] = refl
+of-length f (bad ∷ ls) = of-length f ls
+of-length f (empty ∷ ls) = of-length f ls
+of-length f (word l w r ∷ ls) = ap suc (of-length f ls)
+
+length-keys : (ls : List (List ℕ)) → length (map key ls) ≡ length ls
+length-keys [] = refl
+length-keys (l ∷ ls) = ap suc (length-keys ls)
+
+pub even-labels : (ls : List Line) → length (map key (labelsOf ls)) ≡ length (wordsOf ls)
+even-labels ls = length-keys (labelsOf ls) ∙ of-length (λ l w r. l) ls
+
+pub even-refers : (ls : List Line) → length (map key (refersOf ls)) ≡ length (wordsOf ls)
+even-refers ls = length-keys (refersOf ls) ∙ of-length (λ l w r. r) ls
 
 key-at : (ls : List (List ℕ)) (i : ℕ) → getD (map key ls) i 0 ≡ key (getD ls i [])
 unfolding key
@@ -282,10 +293,6 @@ resolved-at ks (w ∷ ws) [] i e = absurd (omega arith)
 resolved-at ks (w ∷ ws) (r ∷ rs) zero e = refl
 resolved-at ks (w ∷ ws) (r ∷ rs) (suc i) e = resolved-at ks ws rs i (omega arith)
 
-pub length-map-key : (ls : List (List ℕ)) → length (map key ls) ≡ length ls
-length-map-key [] = refl
-length-map-key (l ∷ ls) = ap suc (length-map-key ls)
-
 -- the image of an accepted text is the one that its lines say
 pub accepted-image : (t : List ℕ) (ls : List Line) → Accepted t ls → Image ls (image t)
 unfolding image linesImage key
@@ -297,14 +304,11 @@ accepted-image t ls a = rw (accepted-served t ls a .1) (record { long = long; pl
     rs : List ℕ
     rs = map key (refersOf ls)
 
-    even : length rs ≡ length (wordsOf ls)
-    even = length-map-key (refersOf ls) ∙ even-lines ls .0
-
     long : length (resolveAll ks (wordsOf ls) rs) ≡ length (wordsOf ls)
-    long = length-resolved ks (wordsOf ls) rs even
+    long = length-resolved ks (wordsOf ls) rs (even-refers ls)
 
     at : (i : ℕ) → getD (resolveAll ks (wordsOf ls) rs) i 0 ≡ resolved ks (getD (wordsOf ls) i 0) (key (getD (refersOf ls) i []))
-    at i = resolved-at ks (wordsOf ls) rs i even ∙ ap (resolved ks (getD (wordsOf ls) i 0)) (key-at (refersOf ls) i)
+    at i = resolved-at ks (wordsOf ls) rs i (even-refers ls) ∙ ap (resolved ks (getD (wordsOf ls) i 0)) (key-at (refersOf ls) i)
 
     plain : (i : ℕ) → getD (refersOf ls) i [] ≡ [] → getD (resolveAll ks (wordsOf ls) rs) i 0 ≡ getD (wordsOf ls) i 0
     plain i e = at i ∙ ap (λ (l : List ℕ). resolved ks (getD (wordsOf ls) i 0) (key l)) e ∙ omega arith
@@ -315,5 +319,5 @@ accepted-image t ls a = rw (accepted-served t ls a .1) (record { long = long; pl
         let k = labels-keyed (lines t) ls (a .fit) in
         let r = getD (refersOf ls) i [] in
         let y : Keyed r = keyed-at (refersOf ls) i (k .1) in
-        let p : placed (key r) ks ≡ j = placed-at (labelsOf ls) r j (k .0) y (a .once) n (omega (arith, h, long, even-lines ls .1)) e in
+        let p : placed (key r) ks ≡ j = placed-at (labelsOf ls) r j (k .0) y (a .once) n (omega (arith, h, long, of-length (λ l w r. l) ls)) e in
         at i ∙ rw (key-some r y n, p)

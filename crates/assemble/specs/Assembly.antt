@@ -23,23 +23,20 @@ lines (b ∷ s) = cond (eqb b (code "\n")) ([] ∷ lines s) (inFront b (lines s)
 
 -- ---- the lines that take an address, in their order: labels, words, labels that are referred to
 
+abbrev pub ofWords : {A : Type 0} → (List ℕ → ℕ → List ℕ → A) → List Line → List A
+ofWords f [] = []
+ofWords f (bad ∷ ls) = ofWords f ls
+ofWords f (empty ∷ ls) = ofWords f ls
+ofWords f (word l w r ∷ ls) = f l w r ∷ ofWords f ls
+
 abbrev pub labelsOf : List Line → List (List ℕ)
-labelsOf [] = []
-labelsOf (bad ∷ ls) = labelsOf ls
-labelsOf (empty ∷ ls) = labelsOf ls
-labelsOf (word l w r ∷ ls) = l ∷ labelsOf ls
+labelsOf ls = ofWords (λ l w r. l) ls
 
 abbrev pub wordsOf : List Line → List ℕ
-wordsOf [] = []
-wordsOf (bad ∷ ls) = wordsOf ls
-wordsOf (empty ∷ ls) = wordsOf ls
-wordsOf (word l w r ∷ ls) = w ∷ wordsOf ls
+wordsOf ls = ofWords (λ l w r. w) ls
 
 abbrev pub refersOf : List Line → List (List ℕ)
-refersOf [] = []
-refersOf (bad ∷ ls) = refersOf ls
-refersOf (empty ∷ ls) = refersOf ls
-refersOf (word l w r ∷ ls) = r ∷ refersOf ls
+refersOf ls = ofWords (λ l w r. r) ls
 
 -- ---- which texts are accepted
 

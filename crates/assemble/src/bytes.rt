@@ -42,8 +42,11 @@ fn is_name_byte(b: u8) -> bool
 
 // What a use of `skip` passes over: spaces, the bytes of a name, all up to a comment, all of a line.
 pub(crate) const SPACES: u8 = 0;
+
 pub(crate) const NAME: u8 = 1;
+
 pub(crate) const NO_COMMENT: u8 = 2;
+
 pub(crate) const LINE: u8 = 3;
 
 // Whether it passes over this byte.

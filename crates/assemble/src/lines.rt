@@ -12,7 +12,9 @@ use crate::labels::label_key;
 
 // The kinds of row: of a line that breaks the grammar, one that takes no address, one with a word.
 pub(crate) const BAD: u8 = 0;
+
 pub(crate) const EMPTY: u8 = 1;
+
 pub(crate) const WORD: u8 = 2;
 
 // A line as numbers: the key of its label, its word without the address that it refers to by a label, and
