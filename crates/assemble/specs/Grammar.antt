@@ -46,7 +46,7 @@ isLabel l = eqb (getD l 0 0) (code "L") && (ltb 1 (length l) && (ltb (length l) 
 
 -- the value of a hexadecimal digit, 16 where the byte is none: digits above 9 are capitals
 abbrev pub digitIn : ℕ → ℕ
-digitIn b = cond (between (code "0") (code "9") b) (b - 48) (cond (between (code "A") (code "F") b) (b - 55) 16)
+digitIn b = cond (between (code "0") (code "9") b) (b - code "0") (cond (between (code "A") (code "F") b) (b - 55) 16)
 
 -- ---- forms
 
@@ -121,6 +121,7 @@ referred (blank ∷ t) l r = referred t l r
 referred (digit k ∷ t) l r = referred t l r
 referred (name ∷ t) l r = referred t l l
 
+-- hexadecimal digits as numbers
 abbrev pub Digits : List ℕ → Type 0
 Digits ds = (i : ℕ) → getD ds i 0 < 16
 
