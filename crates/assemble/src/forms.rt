@@ -41,6 +41,8 @@ const UNREAD: Seen = Seen {
     refers: 0,
 };
 
+// One token of a form, read at a place: where the reading comes to, with the word and the label so far.
+// A letter stands for itself.
 fn step_letter(c: u8, s: &[u8], at: usize, w: u64, r: u64) -> Spot
     requires { ⌜ at ≤ length (now s) ⌝ }
     ensures { λ n. ⌜ Next (letter c) (now (s .entry)) at w r n ⌝ }
@@ -59,6 +61,7 @@ fn step_letter(c: u8, s: &[u8], at: usize, w: u64, r: u64) -> Spot
     }
 }
 
+// One space or more.
 fn step_blank(s: &[u8], at: usize, w: u64, r: u64) -> Spot
     requires { ⌜ at ≤ length (now s) ⌝ }
     ensures { λ n. ⌜ Next blank (now (s .entry)) at w r n ⌝ }
@@ -78,6 +81,7 @@ fn step_blank(s: &[u8], at: usize, w: u64, r: u64) -> Spot
     }
 }
 
+// A digit, which counts `m` in the word. The word has room for more digits than any form has.
 fn step_digit(m: u64, s: &[u8], at: usize, w: u64, r: u64) -> Spot
     requires { ⌜ (at ≤ length (now s)) × (m ≤ 4096) × (w < 16777216) ⌝ }
     ensures { λ n. ⌜ Next (digit m) (now (s .entry)) at w r n ⌝ }
@@ -97,6 +101,7 @@ fn step_digit(m: u64, s: &[u8], at: usize, w: u64, r: u64) -> Spot
     }
 }
 
+// A label.
 fn step_name(s: &[u8], at: usize, w: u64, r: u64) -> Spot
     requires { ⌜ at ≤ length (now s) ⌝ }
     ensures { λ n. ⌜ Next name (now (s .entry)) at w r n ⌝ }
@@ -186,26 +191,11 @@ fn by_form(f: usize, s: &[u8]) -> Seen
     }
 }
 
-// The first byte of each form: those that begin with another byte need not be tried.
-const HEADS: [u8; 17] = [
-    b'L',
-    b'L',
-    b'L',
-    b'L',
-    b'S',
-    b'S',
-    b'R',
-    b'N',
-    b'S',
-    b'S',
-    b'R',
-    b'R',
-    b'R',
-    b'J',
-    b'J',
-    b'H',
-    b'.',
-];
+// How many forms there are, and the first byte of each: those that begin with another byte need not be
+// tried.
+const FORMS: usize = 17;
+
+const HEADS: [u8; FORMS] = *b"LLLLSSRNSSRRRJJH.";
 
 // A text read by the first of the forms that fits.
 pub(crate) fn instruction(s: &[u8]) -> Seen
@@ -216,7 +206,7 @@ pub(crate) fn instruction(s: &[u8]) -> Seen
     }
     let head = s[0];
     let mut f = 0;
-    while f < 17 {
+    while f < FORMS {
         let g = f;
         f += 1;
         if HEADS[g] == head {
