@@ -12,3 +12,4 @@ pub mod Steps
 pub mod Rows
 pub mod Linking
 pub mod Answers
+pub mod Back

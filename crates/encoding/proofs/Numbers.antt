@@ -3,12 +3,12 @@ use mathlib.Core.Path.{_≡_, refl, sym, ap, _∙_}
 use mathlib.Core.Bool.{Bool, true, false, cond}
 use mathlib.Core.List.{List, [], _∷_, _++_, append-assoc}
 use Prim.Native.Nat.{ℕ, zero, suc, _+_, _*_, _/_, _%_, _^_, _≤_, _<_}
-use native.Mathlib.Nat.{mul-zero, div-lt-iff-lt-mul, div-add-mod', pow-suc, one-le-pow}
+use native.Mathlib.Nat.{mul-zero, mul-suc, div-lt-iff-lt-mul, div-add-mod', pow-suc, one-le-pow}
 use native.Mathlib.Omega.{arith}
 use borrow.Author.Tests.{le-leb}
 use lib.Dec.{leb, lit<}
-use lib.ListN.{length, take, drop, getD, length-append}
-use lib.Seq.{drop-at, drop-cons, drop-length, getD-at, getD-drop, take-suc}
+use lib.ListN.{length, take, drop, getD, length-append, length-drop}
+use lib.Seq.{drop-at, drop-cons, drop-length, getD-at, getD-drop, take-suc, take-add}
 use Rattle.encoding.specs.Bytes.{within, bigEndian, bigEndians, number, numbers, eachFrom, written, readNumber, readWords}
 use Rattle.encoding.proofs.Written.{written-from, length-written}
 
@@ -63,6 +63,14 @@ bigEndian-number (suc w) l h b =
     let r : (number w l * 256 + getD l w 0) % 256 ≡ getD l w 0 = omega arith in
     rw (q, r, bigEndian-number w l (omega arith) b, take-suc l w 0 (omega arith))
 
+pub bigEndians-numbers : (w c : ℕ) (l : List ℕ) → w * c ≤ length l → ((i : ℕ) → getD l i 0 < 256) → bigEndians w (numbers w c l) ≡ take (w * c) l
+unfolding numbers bigEndians
+bigEndians-numbers w zero l h b = rw (mul-zero w)
+bigEndians-numbers w (suc c) l h b =
+    let e : w * suc c ≡ w + w * c = mul-suc w c ∙ omega arith in
+    let t = bigEndians-numbers w c (drop w l) (rw length-drop (omega arith)) (λ j. rw getD-drop (b (w + j))) in
+    rw (bigEndian-number w l (omega arith) b, t, e) (sym (take-add w (w * c) l))
+
 -- ---- bounds
 
 -- one more byte
@@ -73,6 +81,12 @@ pub number-below : (w : ℕ) (l : List ℕ) → ((i : ℕ) → getD l i 0 < 256)
 unfolding number
 number-below zero l b = lit< tt
 number-below (suc w) l b = byte-more w (number w l) (getD l w 0) (number-below w l b) (b w)
+
+pub numbers-below : (w c : ℕ) (l : List ℕ) → ((i : ℕ) → getD l i 0 < 256) → (i : ℕ) → getD (numbers w c l) i 0 < 256 ^ w
+unfolding numbers
+numbers-below w zero l b i = one-le-pow w 256 (lit< tt)
+numbers-below w (suc c) l b zero = number-below w l b
+numbers-below w (suc c) l b (suc i) = numbers-below w c (drop w l) (λ j. rw getD-drop (b (w + j))) i
 
 -- a number that is read, from bytes, fits their width
 pub read-below : (d : List ℕ) (at w : ℕ) → ((i : ℕ) → getD d i 0 < 256) → readNumber d at w < 256 ^ w

@@ -4,15 +4,14 @@ use native.Mathlib.Omega.{arith}
 use mathlib.Core.Path.{_≡_, refl, sym, ap, _∙_}
 use mathlib.Core.Bool.{Bool, true, false, _&&_}
 use mathlib.Core.List.{List, [], _∷_, _++_, append-assoc}
-use Prim.Native.Nat.{ℕ, zero, suc, _+_, _-_, _^_, _≤_, _<_}
-use native.Mathlib.Nat.{one-le-pow}
+use Prim.Native.Nat.{ℕ, _+_, _-_, _^_, _≤_, _<_}
 use lib.Dec.{eqb, leb, lit<, lit≤}
 use lib.ListN.{length, take, drop, getD, length-append}
 use lib.Seq.{drop-append-add, getD-drop}
 use Rattle.isa.specs.Sizes.{memoryWords, registerCount}
 use Rattle.encoding.specs.Bytes.{over, bigEndian, bigEndians, number, numbers}
 use Rattle.encoding.proofs.Written.{Sized, length-joined, overs-eq}
-use Rattle.encoding.proofs.Numbers.{length-bigEndian, length-bigEndians, length-numbers, number-below, number-bigEndian, numbers-bigEndians}
+use Rattle.encoding.proofs.Numbers.{length-bigEndian, length-bigEndians, length-numbers, number-below, numbers-below, number-bigEndian, numbers-bigEndians}
 use Rattle.control.specs.Address.{addressWidth}
 use Rattle.control.specs.Control.{freshControl, withPc, withIr, withMar, withMdr, withAddress, toTick, withExecuteTicks, withHalted}
 use Rattle.control.specs.Lawful.{lawful}
@@ -231,12 +230,6 @@ module _ (s : Snapshot) (f : Fits s) (rest : List ℕ) where
   round-trip g = rw (good-back ∙ g, snapshot-back)
 
 -- ---- what is read from bytes fits its fields, and `undo` takes it
-
-numbers-below : (w c : ℕ) (l : List ℕ) → ((i : ℕ) → getD l i 0 < 256) → (i : ℕ) → getD (numbers w c l) i 0 < 256 ^ w
-unfolding numbers
-numbers-below w zero l b i = one-le-pow w 256 (lit< tt)
-numbers-below w (suc c) l b zero = number-below w l b
-numbers-below w (suc c) l b (suc i) = numbers-below w c (drop w l) (λ j. rw getD-drop (b (w + j))) i
 
 module _ (l : List ℕ) (b : (i : ℕ) → getD l i 0 < 256) where
   read : (w at : ℕ) → number w (drop at l) < 256 ^ w

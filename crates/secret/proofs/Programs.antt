@@ -6,12 +6,12 @@ use mathlib.Core.Path.{_≡_, refl, sym, ap, _∙_}
 use mathlib.Core.Bool.{Bool, true, false, cond, not}
 use mathlib.Core.List.{List}
 use borrow.Author.Tests.{ltb-false, eqb-true, eq-eqb, le-leb}
-use lib.Dec.{eqb, ltb, lit<}
+use lib.Dec.{eqb, ltb}
 use lib.ListN.{length, take, drop, getD, length-drop}
 use lib.Seq.{length-take-le, getD-drop}
 use Rattle.encoding.specs.Bytes.{within, numbers, readNumber, readWords}
 use Rattle.encoding.proofs.Written.{take-over}
-use Rattle.encoding.proofs.Numbers.{length-numbers, number-below}
+use Rattle.encoding.proofs.Numbers.{length-numbers, numbers-below}
 use Rattle.history.proofs.Parts.{words-inside}
 use Rattle.marks.specs.Marks.{marked}
 use Rattle.guard.specs.Input.{inputFrom, zeroOne, inputRefusal}
@@ -148,15 +148,9 @@ module _ (b out : List ℕ) where
 
 -- ---- words of 16 bits
 
-numbers-below : (k : ℕ) (l : List ℕ) → ((i : ℕ) → getD l i 0 < 256) → (a : ℕ) → getD (numbers 2 k l) a 0 < 65536
-unfolding numbers
-numbers-below zero l h a = lit< tt
-numbers-below (suc k) l h zero = number-below 2 l h
-numbers-below (suc k) l h (suc a) = numbers-below k (drop 2 l) (λ i. rw getD-drop (h (2 + i))) a
-
 pub image-below : (b : List ℕ) → ((i : ℕ) → getD b i 0 < 256) → (a : ℕ) → getD (inputOf b .image) a 0 < 65536
 unfolding inputOf
-image-below b h = numbers-below (imageLength b) (drop 2 b) (λ i. rw getD-drop (h (2 + i)))
+image-below b h = numbers-below 2 (imageLength b) (drop 2 b) (λ i. rw getD-drop (h (2 + i)))
 
 -- ---- what the code reads
 

@@ -1,5 +1,5 @@
 -- Assumes nothing.
-use mathlib.Core.Path.{_≡_, refl, sym, ap, _∙_}
+use mathlib.Core.Path.{_≡_, sym, ap, _∙_}
 use lib.Dec.{lit≤}
 use Rattle.isa.specs.Text.{ascii}
 use Rattle.isa.specs.Word.{decodeWord}
