@@ -5,7 +5,7 @@ use native.Mathlib.Nat.{add-zero}
 use native.Mathlib.Omega.{arith}
 use native.Mathlib.Numerals.{add-one}
 use mathlib.Core.Path.{_≡_, refl, sym, ap, _∙_}
-use mathlib.Core.Bool.{Bool, true, false, cond, not}
+use mathlib.Core.Bool.{Bool, true, false, cond, not, and-false}
 use mathlib.Core.List.{List, [], _∷_, _++_, map, append-assoc, append-nil}
 use borrow.Author.Tests.{eq-eqb, ne-eqb, lt-ltb, le-ltb}
 use lib.Dec.{eqb}
@@ -17,7 +17,6 @@ use Rattle.assemble.specs.Assembly.{lines, inFront, wordsOf, labelsOf, r
 use Rattle.assemble.specs.Reading.{inLine, Passed, labelKey, seen, row, rowSeen, rowAfter, Labelled, LineAt, linesFrom, Held}
 use Rattle.assemble.specs.declared.text.Bounds.{Bounds}
 use Rattle.assemble.proofs.Scans.{false-true}
-use Rattle.assemble.proofs.Exact.{and-false}
 use Rattle.assemble.proofs.Steps.{label-none}
 
 -- the part of a list from a place on
