@@ -7,7 +7,7 @@ use denote.Ref.{now}
 use lib.ListN.{drop}
 use Rattle.assemble.specs.Grammar.{forms, tried}
 use Rattle.assemble.specs.Reading.{seen}
-use Rattle.assemble.proofs.Steps.{tried-found, tried-on, tried-other, tried-out, tried-empty}
+use Rattle.assemble.proofs.Steps.{tried-turn, tried-other, tried-out, tried-empty}
 use borrow.Author.Needs.{needs}
 use Rattle.assemble.proofs.forms.instruction.Statement.{statement}
 use Rattle.assemble.proofs.forms.instruction.Tie as tie
@@ -40,7 +40,7 @@ returns-2 : tie.Need-returns-2 Inv-loop μ-loop
 returns-2 c =
     let l = c .before .before .before .before in
     let s = now (l .before .before .before .before .args .s) in
-    tried-found s (l .loop .f) (c .before .by-form .result) (omega arith) (c .before .by-form .ensures) (c .if3 .taken) ∙ l .loop .inv .1
+    sym (tried-turn s (l .loop .f) (c .before .by-form .result) (omega arith) (c .before .by-form .ensures) ∙ rw (c .if3 .taken)) ∙ l .loop .inv .1
 
 loop-less : tie.Need-loop-less Inv-loop μ-loop
 loop-less c = search needs
@@ -49,7 +49,7 @@ loop-again : tie.Need-loop-again Inv-loop μ-loop
 loop-again c =
     let l = c .before .before .before .before in
     let s = now (l .before .before .before .before .args .s) in
-    (omega arith, sym (tried-on s (l .loop .f) (c .before .by-form .result) (omega arith) (c .before .by-form .ensures) (c .if3 .left)) ∙ l .loop .inv .1)
+    (omega arith, sym (rw (c .if3 .left) at (tried-turn s (l .loop .f) (c .before .by-form .result) (omega arith) (c .before .by-form .ensures))) ∙ l .loop .inv .1)
 
 loop-less-2 : tie.Need-loop-less-2 Inv-loop μ-loop
 loop-less-2 c = search needs
