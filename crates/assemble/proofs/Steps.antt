@@ -74,7 +74,7 @@ pub front-all : (f : ℕ → Bool) (s : List ℕ) → all f (front f s) ≡ true
 front-all f [] = refl
 front-all f (b ∷ s) = cases (f b) (λ e. rw e (rw e (front-all f s))) (λ e. rw e)
 
-label-positive : (l : List ℕ) → isLabel l ≡ true → 0 < key l
+pub label-positive : (l : List ℕ) → isLabel l ≡ true → 0 < key l
 unfolding key
 label-positive [] e = false-true e
 label-positive (b ∷ l) e = let h : b ≡ 76 = label-first (b ∷ l) e in omega arith
