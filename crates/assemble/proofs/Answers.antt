@@ -4,9 +4,9 @@ use Prim.Native.Nat.{ℕ, zero, suc, _+_, _*_, _-_, _≤_, _<_}
 use native.Mathlib.Omega.{arith}
 use native.Mathlib.Nat.{mul-le-mul-left}
 use mathlib.Core.Path.{_≡_, refl, sym, ap, _∙_}
-use mathlib.Core.Bool.{Bool, true, false, cond}
+use mathlib.Core.Bool.{true, false, cond}
 use mathlib.Core.List.{List, [], _∷_, _++_, map}
-use borrow.Author.Tests.{ne-eqb, ltb-true, eqb-true, lt-ltb, le-ltb, eqb-false}
+use borrow.Author.Tests.{ne-eqb, ltb-true, eqb-true, lt-ltb, le-ltb}
 use borrow.Table.Steps.{cases}
 use lib.Dec.{eqb, ltb}
 use lib.ListN.{length, getD, take, drop, replicate, length-take, length-append, length-replicate}
@@ -14,9 +14,9 @@ use lib.Seq.{take-append-seam}
 use Rattle.isa.specs.Text.{padded}
 use Rattle.assemble.specs.Grammar.{Token, letter, blank, digit, name, forms, formAt, counted, referred, Digits, Instruction}
 use Rattle.assemble.specs.Lines.{Line, bad, empty, word, readLine}
-use Rattle.assemble.specs.Assembly.{lines, wordsOf, labelsOf, refersOf, Accepted, faulty, key, doubled, missing, unless, labelRefusal, linesRefusal, refusal, placed, resolved, resolveAll, linesImage, image, Image}
+use Rattle.assemble.specs.Assembly.{lines, wordsOf, labelsOf, refersOf, Accepted, faulty, key, doubled, linesRefusal, refusal, placed, resolved, resolveAll, linesImage, image, Image}
 use Rattle.assemble.specs.Reading.{linesFrom, Held, Linkable, resolvedAs, linked}
-use Rattle.encoding.specs.Bytes.{over, bigEndians, written}
+use Rattle.encoding.specs.Bytes.{over, written}
 use Rattle.encoding.proofs.Numbers.{length-bigEndians}
 use Rattle.encoding.proofs.Written.{written-fits}
 use Rattle.listing.specs.Listing.{listingOf}
@@ -26,7 +26,7 @@ use Rattle.assemble.specs.declared.Assembled.{Assembled}
 use Rattle.assemble.specs.declared.Built.{Built}
 use Rattle.assemble.specs.declared.Built.the-variants.{Written, Refused}
 use Rattle.assemble.proofs.Scans.{rest-digits}
-use Rattle.isa.proofs.Truths.{below, tested}
+use Rattle.isa.proofs.Truths.{tested}
 use Rattle.assemble.proofs.Exact.{word-line-exact}
 use Rattle.assemble.proofs.Texts.{served-accepted, accepted-served, even-labels, even-refers, accepted-image}
 use Rattle.assemble.proofs.RoundTrip.{round-trip}

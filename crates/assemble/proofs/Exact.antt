@@ -1,6 +1,6 @@
 -- A line is read as one with an instruction, or as an empty one, exactly where the grammar says so.
 -- Assumes nothing.
-use Prim.Native.Nat.{ℕ, zero, suc, _+_, _<_}
+use Prim.Native.Nat.{ℕ, zero, suc}
 use Prim.Native.Char.{code}
 use native.Mathlib.Omega.{arith}
 use mathlib.Core.Logic.{_↔_, inl, inr}

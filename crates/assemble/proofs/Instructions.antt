@@ -6,7 +6,7 @@ use mathlib.Core.Logic.{_↔_}
 use mathlib.Core.Path.{_≡_, refl, sym, ap, _∙_}
 use mathlib.Core.Bool.{Bool, true, false, cond, not, _&&_}
 use mathlib.Core.List.{List, [], _∷_, _++_}
-use borrow.Author.Tests.{lt-ltb, ne-eqb, not-true}
+use borrow.Author.Tests.{lt-ltb, not-true}
 use borrow.Table.Steps.{cases}
 use lib.Dec.{eqb, ltb}
 use lib.ListN.{length, getD, drop}

@@ -96,12 +96,13 @@ module _ (ws ks rs out : List ℕ) (i : ℕ) (p : Linkable ws ks rs) (x : Resolv
   unfolding resolvedAs
   place-turn a h n e =
       let q : w + a ≡ resolved ks w r = rw (ne-eqb r 0 n) (omega (arith, e .0)) in
-      let g : i < length rs = omega (arith, p .even) in
-      (rw q (p .small i h),
-       λ f. more (w + a) h q (missing-turn ks rs i g false true (ne-eqb r 0 n) (lt-ltb (placed r ks) (length ks) (omega (arith, e .0, e .1)))),
-       λ f.
-         let m : missing rs ks ≡ true = sym (x .lost) ∙ missing-turn ks rs i g false false (ne-eqb r 0 n) (le-ltb (placed r ks) (length ks) (omega (arith, e .0))) in
-         rw m (answered-refused 12 (resolveAll ks ws rs) (λ z. omega (arith, z))))
+      let g : i < length rs = omega (arith, p .even) in (
+        rw q (p .small i h),
+        λ f. more (w + a) h q (missing-turn ks rs i g false true (ne-eqb r 0 n) (lt-ltb (placed r ks) (length ks) (omega (arith, e .0, e .1)))),
+        λ f.
+            let m : missing rs ks ≡ true = sym (x .lost) ∙ missing-turn ks rs i g false false (ne-eqb r 0 n) (le-ltb (placed r ks) (length ks) (omega (arith, e .0))) in
+            rw m (answered-refused 12 (resolveAll ks ws rs) (λ z. omega (arith, z))),
+      )
 
   pub resolved-all : length ws ≤ i → record { words = out; count = length ws; refused = 0 } ≡ resolvedAs ws ks rs
   unfolding resolveAll padded missing resolvedAs answered

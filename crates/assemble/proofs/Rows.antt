@@ -5,7 +5,7 @@ use native.Mathlib.Nat.{add-zero}
 use native.Mathlib.Omega.{arith}
 use native.Mathlib.Numerals.{add-one}
 use mathlib.Core.Path.{_≡_, refl, sym, ap, _∙_}
-use mathlib.Core.Bool.{Bool, true, false, cond, not, and-true, and-false}
+use mathlib.Core.Bool.{Bool, true, false, cond, and-true, and-false}
 use mathlib.Core.List.{List, [], _∷_, _++_, map, append-assoc, append-nil}
 use borrow.Author.Tests.{eq-eqb, ne-eqb, lt-ltb, le-ltb}
 use borrow.Table.Steps.{cases}
@@ -110,36 +110,47 @@ module _ (t : List ℕ) (at n : ℕ) (ws ks rs : List ℕ) (g : Going t at n ws 
   pub going-turn : (next : ℕ) (l : Line) → linesFrom t at ≡ l ∷ linesFrom t next → Turn t n ws ks rs next (row l)
   unfolding faulty
   going-turn next bad e = (λ k. sym (ap (faulty n) e) ∙ g .faults, λ k. absurd (omega arith), λ k m. absurd (k refl), λ k m. absurd (k refl))
-  going-turn next empty e = (λ k. absurd (omega arith), λ k. record {
-    few = g .few;
-    room = g .room;
-    faults = sym (ap (faulty n) e) ∙ g .faults;
-    words = rw e at (g .words);
-    labels = rw e at (g .labels);
-    refers = rw e at (g .refers);
-  }, λ k m. absurd (m refl), λ k m. absurd (m refl))
+  going-turn next empty e = (
+    λ k. absurd (omega arith),
+    λ k. record {
+      few = g .few;
+      room = g .room;
+      faults = sym (ap (faulty n) e) ∙ g .faults;
+      words = rw e at (g .words);
+      labels = rw e at (g .labels);
+      refers = rw e at (g .refers);
+    },
+    λ k m. absurd (m refl),
+    λ k m. absurd (m refl),
+  )
   going-turn next (word a w b) e =
-      let m = g .room in
-      (λ k. absurd (omega arith), λ k. absurd (omega arith), λ k j f. sym (ap (faulty n) e ∙ rw (le-ltb n 256 (omega arith))) ∙ g .faults, λ k j f.
-        let h : n < 256 = omega (arith, g .few) in
-        record {
-          few = omega arith;
-          room = (length-set ws n w ∙ m .0, length-set ks n (key a) ∙ m .1, length-set rs n (key b) ∙ m .2);
-          faults = rw add-one (sym (ap (faulty n) e ∙ rw (lt-ltb n 256 h)) ∙ g .faults);
-          words = stored ws _ n w (omega (arith, m .0)) ∙ (rw e at (g .words));
-          labels = stored ks _ n (key a) (omega (arith, m .1)) ∙ (rw e at (g .labels));
-          refers = stored rs _ n (key b) (omega (arith, m .2)) ∙ (rw e at (g .refers));
-        })
+      let m = g .room in (
+        λ k. absurd (omega arith),
+        λ k. absurd (omega arith),
+        λ k j f. sym (ap (faulty n) e ∙ rw (le-ltb n 256 (omega arith))) ∙ g .faults,
+        λ k j f.
+            let h : n < 256 = omega (arith, g .few) in
+            record {
+              few = omega arith;
+              room = (length-set ws n w ∙ m .0, length-set ks n (key a) ∙ m .1, length-set rs n (key b) ∙ m .2);
+              faults = rw add-one (sym (ap (faulty n) e ∙ rw (lt-ltb n 256 h)) ∙ g .faults);
+              words = stored ws _ n w (omega (arith, m .0)) ∙ (rw e at (g .words));
+              labels = stored ks _ n (key a) (omega (arith, m .1)) ∙ (rw e at (g .labels));
+              refers = stored rs _ n (key b) (omega (arith, m .2)) ∙ (rw e at (g .refers));
+            },
+      )
 
   -- nothing is left
   pub going-end : length t ≤ at → (0 ≡ faulty 0 (linesFrom t 0)) × Held (linesFrom t 0) n ws ks rs
   unfolding faulty lines
   going-end h =
-      let e : linesFrom t at ≡ [] = rw (drop-of-length-le t {i = at} h) in
-      (sym (ap (faulty n) e) ∙ g .faults, record {
-        few = g .few;
-        room = g .room;
-        words = sym (append-nil (take n ws)) ∙ (rw e at (g .words));
-        labels = sym (append-nil (take n ks)) ∙ (rw e at (g .labels));
-        refers = sym (append-nil (take n rs)) ∙ (rw e at (g .refers));
-      })
+      let e : linesFrom t at ≡ [] = rw (drop-of-length-le t {i = at} h) in (
+        sym (ap (faulty n) e) ∙ g .faults,
+        record {
+          few = g .few;
+          room = g .room;
+          words = sym (append-nil (take n ws)) ∙ (rw e at (g .words));
+          labels = sym (append-nil (take n ks)) ∙ (rw e at (g .labels));
+          refers = sym (append-nil (take n rs)) ∙ (rw e at (g .refers));
+        },
+      )

@@ -6,20 +6,19 @@ use native.Mathlib.Omega.{arith}
 use native.Mathlib.Numerals.{add-one}
 use mathlib.Core.Path.{_≡_, refl, sym, ap, _∙_}
 use mathlib.Core.Bool.{Bool, true, false, cond}
-use mathlib.Core.List.{List, [], _∷_, _++_, map, append-assoc, append-nil}
-use borrow.Author.Tests.{eqb-true, eq-eqb, ne-eqb}
+use mathlib.Core.List.{List, [], _∷_, _++_, map, append-nil}
+use borrow.Author.Tests.{eqb-true, ne-eqb}
 use borrow.Table.Steps.{cases}
 use lib.Dec.{eqb, ltb}
-use lib.ListN.{length, getD, take, drop, set, replicate, length-drop, length-set, take-append-drop, drop-of-length-le}
-use lib.Seq.{drop-cons, take-suc, getD-drop, drop-length, drop-drop, take-suc-set, drop-set-lt}
+use lib.ListN.{length, getD, take, drop, length-drop, take-append-drop, drop-of-length-le}
+use lib.Seq.{drop-cons, take-suc, getD-drop, drop-drop}
 use Rattle.isa.specs.Format.{hexDigit}
-use Rattle.encoding.specs.Bytes.{member}
 use Rattle.assemble.specs.Grammar.{all, front, behind, isSpace, isNameByte, isLabel, digitIn, Token, letter, blank, digit, name, token, Form, form, forms, formAt, Found, none, found, atEnd, scan, orElse, tried}
-use Rattle.assemble.specs.Assembly.{key, placed, doubled, missing, resolved, resolveAll}
+use Rattle.assemble.specs.Assembly.{key}
 use Rattle.assemble.specs.Reading.{passing, Passed, labelKey, unread, seen, ended, keyed, after, Next}
 use Rattle.assemble.specs.declared.forms.Seen.{Seen}
 use Rattle.assemble.specs.declared.forms.Spot.{Spot}
-use Rattle.isa.proofs.Truths.{below, tested}
+use Rattle.isa.proofs.Truths.{tested}
 use Rattle.assemble.proofs.Scans.{false-true, front-behind, past, label-first, begins}
 use Rattle.assemble.proofs.Exact.{all-append}
 

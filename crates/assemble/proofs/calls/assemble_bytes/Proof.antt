@@ -1,5 +1,5 @@
 -- Assumes nothing.
-use Prim.Native.Nat.{ℕ, _*_, _≤_}
+use Prim.Native.Nat.{ℕ, _*_}
 use native.Mathlib.Omega.{arith}
 use mathlib.Core.Path.{_≡_, sym, ap, _∙_}
 use mathlib.Core.List.{List}
@@ -7,7 +7,7 @@ use denote.Ref.{now}
 use lib.ListN.{length}
 use lib.Seq.{length-take-le}
 use Rattle.encoding.specs.Bytes.{bigEndians, written}
-use Rattle.assemble.specs.Assembly.{refusal, image}
+use Rattle.assemble.specs.Assembly.{image}
 use Rattle.encoding.specs.Answer.{outcome}
 use Rattle.assemble.specs.declared.Built.the-variants.{Written}
 use Rattle.assemble.proofs.Answers.{Said, said, bytes-refused, bytes-short, bytes-written}

@@ -1,6 +1,5 @@
 -- Assumes nothing.
 use mathlib.Core.Path.{sym, _∙_}
-use borrow.Author.Tests.{not-false}
 use denote.Ref.{now}
 use Rattle.assemble.proofs.Answers.{linked-doubled, linked-once}
 use borrow.Author.Needs.{needs}

@@ -1,10 +1,10 @@
 -- The invariant: what is done of the image, with what is left, is the whole, and behind it there are zeros; from i on a label is missing where one is at all.
 -- Assumes nothing.
-use Prim.Native.Nat.{_+_, _-_}
+use Prim.Native.Nat.{_-_}
 use native.Mathlib.Omega.{arith}
-use mathlib.Core.Path.{_≡_, refl, sym, _∙_}
+use mathlib.Core.Path.{refl, _∙_}
 use denote.Ref.{now}
-use lib.ListN.{length, drop}
+use lib.ListN.{length}
 use Rattle.assemble.proofs.Linking.{Resolving, plain-turn, place-turn, resolved-all}
 use borrow.Author.Needs.{needs}
 use Rattle.assemble.proofs.links.resolve.Statement.{statement}

@@ -2,11 +2,8 @@
 -- Assumes nothing.
 use Prim.Native.Nat.{_-_, _≤_}
 use native.Mathlib.Omega.{arith}
-use mathlib.Core.Path.{_≡_, sym, ap, _∙_}
 use denote.Ref.{now}
-use lib.ListN.{length, take, drop, length-set}
-use Rattle.assemble.specs.Lines.{Line, readLine}
-use Rattle.assemble.specs.declared.lines.Row.{Row}
+use lib.ListN.{length}
 use Rattle.assemble.proofs.Rows.{Going, lines-next, going-first, Turn, going-turn, going-end}
 use borrow.Author.Needs.{needs}
 use Rattle.assemble.proofs.text.collect.Statement.{statement}
