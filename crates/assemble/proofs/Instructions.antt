@@ -76,58 +76,47 @@ each-form p [] i e h = absurd (omega arith)
 each-form p (f ∷ fs) zero e h = both (p f) (eachForm p fs) e .0
 each-form p (f ∷ fs) (suc i) e h = each-form p fs i (both (p f) (eachForm p fs) e .1) (omega arith)
 
--- each is apart from every later one
-abbrev separate : List Form → Bool
-separate [] = true
-separate (f ∷ fs) = eachForm (λ (g : Form). apart (f .pattern) (g .pattern) .0) fs && separate fs
+-- neat, and apart from every later one
+abbrev fit : Form → List Form → Bool
+fit f fs = neat (f .pattern) && eachForm (λ (g : Form). apart (f .pattern) (g .pattern) .0) fs
 
-abbrev neatForm : Form → Bool
-neatForm f = neat (f .pattern)
+abbrev sound : List Form → Bool
+sound [] = true
+sound (f ∷ fs) = fit f fs && sound fs
 
-forms-separate : separate forms ≡ true
+forms-sound : sound forms ≡ true
 unfolding forms apart
-forms-separate = refl
-
-forms-neat : eachForm neatForm forms ≡ true
-unfolding forms
-forms-neat = refl
-
-tried-made : (fs : List Form) (i : ℕ) (ds l gs : List ℕ) → separate fs ≡ true → eachForm neatForm fs ≡ true → i < length fs → Digits ds → isLabel l ≡ true
-    → tried fs (made (formAt fs i .pattern) ds l gs) ≡ found (counted (formAt fs i .pattern) ds (formAt fs i .base)) (referred (formAt fs i .pattern) l [])
-unfolding tried
-tried-made [] i ds l gs e k h d n = absurd (omega arith)
-tried-made (f ∷ fs) zero ds l gs e k h d n = rw (scan-made (f .pattern) ds l gs (f .base) [] (both (neatForm f) (eachForm neatForm fs) k .0) d n)
-tried-made (f ∷ fs) (suc i) ds l gs e k h d n =
-    let p : Form → Bool = λ (g : Form). apart (f .pattern) (g .pattern) .0 in
-    let s = both (eachForm p fs) (separate fs) e in
-    rw (apart (f .pattern) (formAt fs i .pattern) .1 (each-form p fs i (s .0) (omega arith)) ds l gs (f .base) [] d n)
-    (tried-made fs i ds l gs (s .1) (both (neatForm f) (eachForm neatForm fs) k .1) (omega arith) d n)
+forms-sound = refl
 
 abbrev Tried : List Form → List ℕ → ℕ → List ℕ → Type 0
 Tried fs s w r = (i : ℕ) × (i < length fs) × Fits (formAt fs i .pattern) (formAt fs i .base) [] s w r
 
-tried-fits : (fs : List Form) (s : List ℕ) (w : ℕ) (r : List ℕ) → eachForm neatForm fs ≡ true → tried fs s ≡ found w r → Tried fs s w r
+tried-made : (fs : List Form) (s : List ℕ) (w : ℕ) (r : List ℕ) → sound fs ≡ true → Tried fs s w r → tried fs s ≡ found w r
+unfolding tried
+tried-made [] s w r e (i, h, m) = absurd (omega arith)
+tried-made (f ∷ fs) s w r e (zero, h, m) =
+    let k = both (fit f fs) (sound fs) e in
+    let q = scan-made (f .pattern) (m .digits) (m .label) (m .gaps) (f .base) [] (both (neat (f .pattern)) _ (k .0) .0) (m .hexadecimal) (m .named) in
+    rw (m .text, q, ← m .word, ← m .refers)
+tried-made (f ∷ fs) s w r e (suc i, h, m) =
+    let p : Form → Bool = λ (g : Form). apart (f .pattern) (g .pattern) .0 in
+    let k = both (fit f fs) (sound fs) e in
+    let a = apart (f .pattern) (formAt fs i .pattern) .1 (each-form p fs i (both (neat (f .pattern)) _ (k .0) .1) (omega arith)) in
+    rw (ap (scan (f .pattern) (f .base) []) (m .text) ∙ a (m .digits) (m .label) (m .gaps) (f .base) [] (m .hexadecimal) (m .named))
+    (tried-made fs s w r (k .1) (i, omega arith, m))
+
+tried-fits : (fs : List Form) (s : List ℕ) (w : ℕ) (r : List ℕ) → sound fs ≡ true → tried fs s ≡ found w r → Tried fs s w r
 unfolding tried
 tried-fits [] s w r k e = none-found e
-tried-fits (f ∷ fs) s w r k e = go (scan (f .pattern) (f .base) [] s) refl e (tried-fits fs s w r (n .1))
+tried-fits (f ∷ fs) s w r k e = go (scan (f .pattern) (f .base) [] s) refl e (tried-fits fs s w r (both (fit f fs) (sound fs) k .1))
   where
-    n : (neatForm f ≡ true) × (eachForm neatForm fs ≡ true)
-    n = both (neatForm f) (eachForm neatForm fs) k
-
     go : (o : Found) → scan (f .pattern) (f .base) [] s ≡ o → orElse o (tried fs s) ≡ found w r → (tried fs s ≡ found w r → Tried fs s w r) → Tried (f ∷ fs) s w r
     go none q h g = let t = g h in (suc (t .0), omega (arith, t .1), t .2)
-    go (found v x) q h g = (0, omega arith, scanned (f .pattern) (f .base) [] s w r (76 ∷ 48 ∷ []) (n .0) refl (q ∙ h) .0)
+    go (found v x) q h g =
+        let n = both (neat (f .pattern)) _ (both (fit f fs) (sound fs) k .0) .0 in
+        (0, omega arith, scanned (f .pattern) (f .base) [] s w r (76 ∷ 48 ∷ []) n refl (q ∙ h) .0)
 
 -- a text is read exactly where it is an instruction
 pub instruction-exact : (s : List ℕ) (w : ℕ) (r : List ℕ) → (tried forms s ≡ found w r) ↔ Instruction s w r
-instruction-exact s w r = (reads, fits)
-  where
-    reads : tried forms s ≡ found w r → Instruction s w r
-    reads e = let t = tried-fits forms s w r forms-neat e in record { which = t .0; known = t .1; fits = t .2 }
-
-    fits : Instruction s w r → tried forms s ≡ found w r
-    fits i =
-        let f = i .fits in
-        ap (tried forms) (f .text)
-        ∙ tried-made forms (i .which) (f .digits) (f .label) (f .gaps) forms-separate forms-neat (i .known) (f .hexadecimal) (f .named)
-        ∙ (λ k. found (sym (f .word) k) (sym (f .refers) k))
+instruction-exact s w r = (λ e. let t = tried-fits forms s w r forms-sound e in record { which = t .0; known = t .1; fits = t .2 },
+  λ i. tried-made forms s w r forms-sound (i .which, i .known, i .fits))
