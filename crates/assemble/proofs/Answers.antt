@@ -4,7 +4,7 @@ use Prim.Native.Nat.{ℕ, zero, suc, _+_, _*_, _-_, _≤_, _<_}
 use native.Mathlib.Omega.{arith}
 use native.Mathlib.Nat.{mul-le-mul-left}
 use mathlib.Core.Path.{_≡_, refl, sym, ap, _∙_}
-use mathlib.Core.Bool.{true, false, cond}
+use mathlib.Core.Bool.{Bool, true, false, cond}
 use mathlib.Core.List.{List, [], _∷_, _++_, map}
 use borrow.Author.Tests.{ne-eqb, ltb-true, eqb-true, lt-ltb, le-ltb}
 use borrow.Table.Steps.{cases}
@@ -118,14 +118,11 @@ unfolding assembled refusal linesRefusal
 fault-answer t zero e n = absurd (n refl)
 fault-answer t (suc r) e n = rw (← e) (answered-refused (suc r) (image t) n)
 
-module _ (ws ks rs : List ℕ) where
-  pub linked-doubled : doubled ks ≡ true → answered 12 [] ≡ linked ws ks rs
-  unfolding linked
-  linked-doubled e = rw e (answered-refused 12 (resolveAll ks ws rs) (λ q. omega (arith, q)))
-
-  pub linked-once : doubled ks ≡ false → resolvedAs ws ks rs ≡ linked ws ks rs
-  unfolding linked resolvedAs
-  linked-once e = rw e
+-- whether a label stands on two lines
+pub linked-by : (ws ks rs : List ℕ) (v : Bool) → doubled ks ≡ v → cond v (answered 12 []) (resolvedAs ws ks rs) ≡ linked ws ks rs
+unfolding linked resolvedAs
+linked-by ws ks rs true e = rw e (answered-refused 12 (resolveAll ks ws rs) (λ q. omega (arith, q)))
+linked-by ws ks rs false e = rw e
 
 -- ---- what a caller reads off the answer
 
@@ -162,13 +159,10 @@ said t a e z =
 -- ---- the answer of assembling into a buffer
 
 module _ (t out : List ℕ) where
-  pub bytes-refused : (a : Assembled) → a ≡ assembled t → (a .refused ≡ 0 → ⊥) → outcome (Refused (a .refused)) out ≡ bytesOutcome t out
-  unfolding bytesOutcome assembled answered
-  bytes-refused a e = go (a .refused) (ap (λ (x : Assembled). x .refused) e)
-    where
-      go : (r : ℕ) → r ≡ refusal t → (r ≡ 0 → ⊥) → outcome (Refused r) out ≡ bytesOutcome t out
-      go zero q n = absurd (n refl)
-      go (suc r) q n = rw (← q, ne-eqb (suc r) 0 n)
+  pub bytes-refused : (r : ℕ) → r ≡ refusal t → (r ≡ 0 → ⊥) → outcome (Refused r) out ≡ bytesOutcome t out
+  unfolding bytesOutcome
+  bytes-refused zero e n = absurd (n refl)
+  bytes-refused (suc r) e n = rw (← e, ne-eqb (suc r) 0 n)
 
   pub bytes-short : refusal t ≡ 0 → length out < 2 * length (image t) → outcome (Refused 5) out ≡ bytesOutcome t out
   unfolding bytesOutcome

@@ -92,9 +92,6 @@ pub record Going (t : List ℕ) (at n : ℕ) (ws ks rs : List ℕ) : Type 0 wher
   pub labels : take n ks ++ map key (labelsOf (linesFrom t at)) ≡ map key (labelsOf (linesFrom t 0))
   pub refers : take n rs ++ map key (refersOf (linesFrom t at)) ≡ map key (refersOf (linesFrom t 0))
 
-pub going-first : (t ws ks rs : List ℕ) → Room ws ks rs → Going t 0 0 ws ks rs
-going-first t ws ks rs m = record { few = omega arith; room = m; faults = refl; words = refl; labels = refl; refers = refl }
-
 stored : (xs ys : List ℕ) (n v : ℕ) → n < length xs → take (n + 1) (set xs n v) ++ ys ≡ take n xs ++ (v ∷ ys)
 stored xs ys n v h = rw (add-one, take-suc-set xs n v h, append-assoc)
 

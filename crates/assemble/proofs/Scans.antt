@@ -31,11 +31,6 @@ past f (b ∷ x) y e =
     let r = past f x y (p .1) in
     (rw (p .0) (ap (λ (z : List ℕ). b ∷ z) (r .0)), rw (p .0) (r .1))
 
--- a text whose first byte does not pass
-pub stops : (f : ℕ → Bool) (x : List ℕ) → f (getD x 0 0) ≡ false → (front f x ≡ []) × (behind f x ≡ x)
-stops f [] e = (refl, refl)
-stops f (b ∷ x) e = (rw e, rw e)
-
 pub skip-spaces : (n : ℕ) (s : List ℕ) → behind isSpace (spaces n ++ s) ≡ behind isSpace s
 skip-spaces zero s = refl
 skip-spaces (suc n) s = skip-spaces n s
@@ -117,18 +112,18 @@ neat (name ∷ t) = (closed t && nameless t) && neat t
 
 -- ---- what a pattern writes is read by it
 
-begun : (f : ℕ → Bool) (t : List Token) (ds l gs : List ℕ) → Digits ds → begins f t ≡ true → f (getD (made t ds l gs) 0 0) ≡ true
-unfolding made
-begun f [] ds l gs h e = false-true e
-begun f (letter c ∷ t) ds l gs h e = e
-begun f (blank ∷ t) ds l gs h e = false-true e
-begun f (digit k ∷ t) ds l gs h e = tested (λ (d : ℕ). f (hexDigit d)) 16 e (getD ds 0 0) (h 0)
-begun f (name ∷ t) ds l gs h e = false-true e
-
--- a text by a pattern that does not begin so
+-- it begins with no byte that passes
 pub stops-made : (f : ℕ → Bool) (t : List Token) (ds l gs : List ℕ) → Digits ds → begins (λ (b : ℕ). not (f b)) t ≡ true
     → (front f (made t ds l gs) ≡ []) × (behind f (made t ds l gs) ≡ made t ds l gs)
-stops-made f t ds l gs h e = stops f (made t ds l gs) (not-true (f (getD (made t ds l gs) 0 0)) (begun (λ (b : ℕ). not (f b)) t ds l gs h e))
+unfolding made
+stops-made f [] ds l gs h e = false-true e
+stops-made f (letter c ∷ t) ds l gs h e = let q = not-true (f c) e in (rw q, rw q)
+stops-made f (blank ∷ t) ds l gs h e = false-true e
+stops-made f (digit k ∷ t) ds l gs h e =
+    let d = getD ds 0 0 in
+    let q = not-true (f (hexDigit d)) (tested (λ (d : ℕ). not (f (hexDigit d))) 16 e d (h 0)) in
+    (rw q, rw q)
+stops-made f (name ∷ t) ds l gs h e = false-true e
 
 pub scan-made : (t : List Token) (ds l gs : List ℕ) (w : ℕ) (r : List ℕ) → neat t ≡ true → Digits ds → isLabel l ≡ true
     → scan t w r (made t ds l gs) ≡ found (counted t ds w) (referred t l r)

@@ -41,9 +41,6 @@ power-six n h = pow-le-pow-right {n = 256} (omega arith) {i = n} {j = 6} h
 abbrev pub Passing : (ℕ → Bool) → List ℕ → ℕ → ℕ → Type 0
 Passing f s at i = (at ≤ i) × (i ≤ length s) × (all f (take (i - at) (drop at s)) ≡ true)
 
-pub pass-first : (f : ℕ → Bool) (s : List ℕ) (at : ℕ) → at ≤ length s → Passing f s at at
-pass-first f s at h = let z : at - at ≡ 0 = omega arith in (omega arith, h, rw z)
-
 taken-more : (s : List ℕ) (at i : ℕ) → at ≤ i → i < length s → take (i + 1 - at) (drop at s) ≡ take (i - at) (drop at s) ++ (getD s i 0 ∷ [])
 taken-more s at i h g =
     let e : i + 1 - at ≡ suc (i - at) = omega arith in
@@ -130,10 +127,6 @@ tried-turn s f n h e =
     ap (λ (fs : List Form). seen (tried fs s)) (drop-cons forms f (form 0 "") h)
     ∙ or-else (scan (p .pattern) (p .base) [] s) o
     ∙ rw add-one (ap (λ (x : Seen). cond (x .ok) x (seen o)) (sym (e ∙ keyed-scan (p .pattern) (p .base) [] s)))
-
-pub tried-out : (s : List ℕ) (f : ℕ) → 17 ≤ f → seen (tried (drop f forms) s) ≡ unread
-unfolding tried forms
-tried-out s f h = rw (drop-of-length-le forms {i = f} h)
 
 -- the first byte of each form
 abbrev pub heads : List ℕ

@@ -1,6 +1,7 @@
 -- The invariant: the bytes from `at` to i pass.
 -- Assumes nothing.
 use Prim.Native.Nat.{_-_}
+use native.Mathlib.Nat.{sub-self}
 use native.Mathlib.Omega.{arith}
 use denote.Ref.{now}
 use mathlib.Core.Path.{_≡_, sym, _∙_}
@@ -9,7 +10,7 @@ use borrow.Author.Tests.{not-true, not-false}
 use lib.ListN.{length, getD, drop-of-length-le}
 use lib.Seq.{drop-cons}
 use Rattle.assemble.specs.Reading.{passing}
-use Rattle.assemble.proofs.Steps.{Passing, pass-first, pass-more, pass-done}
+use Rattle.assemble.proofs.Steps.{Passing, pass-more, pass-done}
 use borrow.Author.Needs.{needs}
 use Rattle.assemble.proofs.bytes.skip.Statement.{statement}
 use Rattle.assemble.proofs.bytes.skip.Tie as tie
@@ -21,7 +22,7 @@ abbrev μ-loop : tie.MeasureT-loop
 μ-loop kind s at i₀ i = length s - i
 
 loop-holds : tie.Need-loop-holds Inv-loop μ-loop
-loop-holds c = pass-first (passing (c .before .args .kind)) (now (c .before .args .s)) (c .before .args .at) (c .before .pre)
+loop-holds c = (search needs, search needs, rw sub-self)
 
 shared-slice-read-passes : tie.Need-shared-slice-read-passes Inv-loop μ-loop
 shared-slice-read-passes c = omega arith

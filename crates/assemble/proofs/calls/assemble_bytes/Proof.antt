@@ -9,6 +9,8 @@ use lib.Seq.{length-take-le}
 use Rattle.encoding.specs.Bytes.{bigEndians, written}
 use Rattle.assemble.specs.Assembly.{image}
 use Rattle.encoding.specs.Answer.{outcome}
+use Rattle.assemble.specs.Answer.{answered, assembled}
+use Rattle.assemble.specs.declared.Assembled.{Assembled}
 use Rattle.assemble.specs.declared.Built.the-variants.{Written}
 use Rattle.assemble.proofs.Answers.{Said, said, bytes-refused, bytes-short, bytes-written}
 use borrow.Author.Needs.{needs}
@@ -23,10 +25,11 @@ assemble-requires : tie.Need-assemble-requires
 assemble-requires c κs = search needs
 
 returns : tie.Need-returns
+unfolding assembled answered
 returns c =
     let s = c .before .before .before .before .args in
     let a = c .before .assemble in
-    bytes-refused (now (s .text)) (now (s .out)) (a .result) (a .ensures) (c .if1 .taken)
+    bytes-refused (now (s .text)) (now (s .out)) (a .result .refused) (ap (λ (x : Assembled). x .refused) (a .ensures)) (c .if1 .taken)
 
 mul-size : tie.Need-mul-size
 mul-size c = record { fits = omega (arith, clean c .few) }

@@ -2,9 +2,10 @@
 -- Assumes nothing.
 use Prim.Native.Nat.{_-_, _≤_}
 use native.Mathlib.Omega.{arith}
+use mathlib.Core.Path.{refl}
 use denote.Ref.{now}
 use lib.ListN.{length}
-use Rattle.assemble.proofs.Rows.{Going, lines-next, going-first, Turn, going-turn, going-end}
+use Rattle.assemble.proofs.Rows.{Going, lines-next, Turn, going-turn, going-end}
 use borrow.Author.Needs.{needs}
 use Rattle.assemble.proofs.text.collect.Statement.{statement}
 use Rattle.assemble.proofs.text.collect.Tie as tie
@@ -25,9 +26,7 @@ turn r =
     rw (r .line-row .ensures) (going-turn t (l .loop .at) (l .loop .n) (l .loop .words) (l .loop .labels) (l .loop .refers) (l .loop .inv .1) (b .result .next) _ (lines-next t (l .loop .at) (b .result) (omega arith) (b .ensures)))
 
 loop-holds : tie.Need-loop-holds Inv-loop μ-loop
-loop-holds c =
-    let s = c .before in
-    (search needs, going-first (now (s .args .text)) (now (s .args .words)) (now (s .args .labels)) (now (s .args .refers)) (s .pre))
+loop-holds c = (search needs, record { few = omega arith; room = c .before .pre; faults = refl; words = refl; labels = refl; refers = refl })
 
 line-at-requires : tie.Need-line-at-requires Inv-loop μ-loop
 line-at-requires c κs = omega arith
