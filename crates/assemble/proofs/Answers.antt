@@ -14,7 +14,8 @@ use lib.Seq.{take-append-seam}
 use Rattle.isa.specs.Text.{padded}
 use Rattle.assemble.specs.Grammar.{Token, letter, blank, digit, name, forms, formAt, counted, referred, Digits, Instruction}
 use Rattle.assemble.specs.Lines.{Line, bad, empty, word, readLine}
-use Rattle.assemble.specs.Assembly.{lines, wordsOf, labelsOf, refersOf, Accepted, faulty, key, doubled, linesRefusal, refusal, placed, resolved, resolveAll, linesImage, image, Image}
+use Rattle.assemble.specs.Assembly.{lines, wordsOf, labelsOf, refersOf, Accepted, faulty, key, doubled}
+use Rattle.assemble.specs.Assembly.{linesRefusal, refusal, placed, resolved, resolveAll, linesImage, image, Image}
 use Rattle.assemble.specs.Reading.{linesFrom, Held, Linkable, resolvedAs, linked}
 use Rattle.encoding.specs.Bytes.{over, written}
 use Rattle.encoding.proofs.Numbers.{length-bigEndians}
@@ -102,12 +103,12 @@ module _ (t : List ℕ) (n : ℕ) (ws ks rs : List ℕ) (h : Held (linesFrom t 0
   pub held-linkable : Linkable (take n ws) (take n ks) (take n rs)
   held-linkable =
       let ls = linesFrom t 0 in
+      let ks = map key (labelsOf ls) in
+      let rs = map key (refersOf ls) in
       let m : length (wordsOf ls) ≤ 256 = rw (← h .words, length-take) (omega (arith, h .few)) in
-      rw (h .words, h .labels, h .refers) (record {
-        few = m;
-        even = even-refers ls;
-        small = λ i g. resolved-small (map key (labelsOf ls)) (getD (wordsOf ls) i 0) (getD (map key (refersOf ls)) i 0) (omega (arith, even-labels ls, m)) (lines-small (lines t) i);
-      })
+      let f : length ks ≤ 256 = omega (arith, even-labels ls, m) in
+      let b : Small ls = lines-small (lines t) in
+      rw (h .words, h .labels, h .refers) (record { few = m; even = even-refers ls; small = λ i g. resolved-small ks (getD (wordsOf ls) i 0) (getD rs i 0) f (b i) })
 
   pub held-answer : 0 ≡ faulty 0 (linesFrom t 0) → linked (take n ws) (take n ks) (take n rs) ≡ assembled t
   unfolding linked assembled refusal linesRefusal image linesImage

@@ -115,7 +115,8 @@ unfolding readBody
 body-read [] w r e u = none-found (nothing ∙ e)
 body-read (b ∷ s) w r e u = rw (u, e)
 
-label-read : (l i : List ℕ) (n w : ℕ) (r : List ℕ) → isLabel l ≡ true → behind isSpace i ≡ i → tried forms i ≡ found w r → readBody (l ++ (58 ∷ (spaces (suc n) ++ i))) ≡ word l w r
+label-read : (l i : List ℕ) (n w : ℕ) (r : List ℕ) → isLabel l ≡ true → behind isSpace i ≡ i → tried forms i ≡ found w r
+    → readBody (l ++ (58 ∷ (spaces (suc n) ++ i))) ≡ word l w r
 unfolding readBody
 label-read [] i n w r e u t = false-true e
 label-read (b ∷ l) i n w r e u t =
@@ -148,9 +149,10 @@ line-read s l w r k = go (k .labelled)
         ∙ rw (b .unspaced, q .1) (body-read (k .body) w r t (b .unlabelled))
     go (inr q) =
         let p : List ℕ = 58 ∷ spaces (suc (q .0)) in
-        let c = all-append noComment p (k .body) (spaces-clean (suc (q .0))) (b .uncommented) in
-        opened (k .left) (l ++ (p ++ k .body)) (k .comment) (k .text ∙ rw (q .2) (simp append-assoc)) (all-append noComment l (p ++ k .body) (label-clean l (q .1)) c) (k .commented)
-        ∙ rw (label-solid l (p ++ k .body) (q .1)) (label-read l (k .body) (q .0) w r (q .1) (b .unspaced) t)
+        let x = p ++ k .body in
+        let c = all-append noComment l x (label-clean l (q .1)) (all-append noComment p (k .body) (spaces-clean (suc (q .0))) (b .uncommented)) in
+        opened (k .left) (l ++ x) (k .comment) (k .text ∙ rw (q .2) (simp append-assoc)) c (k .commented)
+        ∙ rw (label-solid l x (q .1)) (label-read l (k .body) (q .0) w r (q .1) (b .unspaced) t)
 
 empty-read : (s : List ℕ) → EmptyLine s → readLine s ≡ empty
 unfolding readBody

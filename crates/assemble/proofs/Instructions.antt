@@ -3,7 +3,7 @@
 use Prim.Native.Nat.{ℕ, zero, suc, _+_, _*_, _<_}
 use native.Mathlib.Omega.{arith}
 use mathlib.Core.Logic.{_↔_}
-use mathlib.Core.Path.{_≡_, refl, sym, ap, _∙_}
+use mathlib.Core.Path.{_≡_, refl, ap, _∙_}
 use mathlib.Core.Bool.{Bool, true, false, cond, not, _&&_}
 use mathlib.Core.List.{List, [], _∷_, _++_}
 use borrow.Author.Tests.{lt-ltb, not-true}
@@ -13,7 +13,7 @@ use lib.ListN.{length, getD, drop}
 use Rattle.isa.specs.Format.{hexDigit}
 use Rattle.isa.proofs.Truths.{both, below, tested}
 use Rattle.assemble.specs.Grammar.{isSpace, isLabel, digitIn, Token, letter, blank, digit, name, Form, forms, formAt}
-use Rattle.assemble.specs.Grammar.{made, counted, referred, Digits, Fits, Instruction, Found, none, found, scan, orElse, tried}
+use Rattle.assemble.specs.Grammar.{made, Digits, Fits, Instruction, Found, none, found, scan, orElse, tried}
 use Rattle.assemble.proofs.Scans.{false-true, none-found, digit-read, label-first, skip-spaces, solid, stops-made, rest-digits, neat, scan-made, scanned}
 
 -- ---- two patterns
@@ -118,5 +118,7 @@ tried-fits (f ∷ fs) s w r k e = go (scan (f .pattern) (f .base) [] s) refl e (
 
 -- a text is read exactly where it is an instruction
 pub instruction-exact : (s : List ℕ) (w : ℕ) (r : List ℕ) → (tried forms s ≡ found w r) ↔ Instruction s w r
-instruction-exact s w r = (λ e. let t = tried-fits forms s w r forms-sound e in record { which = t .0; known = t .1; fits = t .2 },
-  λ i. tried-made forms s w r forms-sound (i .which, i .known, i .fits))
+instruction-exact s w r = (
+  λ e. let t = tried-fits forms s w r forms-sound e in record { which = t .0; known = t .1; fits = t .2 },
+  λ i. tried-made forms s w r forms-sound (i .which, i .known, i .fits),
+)

@@ -22,7 +22,8 @@ use Rattle.assemble.specs.Reading.{Linkable, resolvedAs}
 next : (xs : List ℕ) (i : ℕ) → i < length xs → drop i xs ≡ getD xs i 0 ∷ drop (i + 1) xs
 next xs i h = rw add-one (drop-cons xs i 0 h)
 
-pub placed-turn : (k : ℕ) (xs : List ℕ) (i : ℕ) → i < length xs → (v : Bool) → eqb (getD xs i 0) k ≡ v → placed k (drop i xs) ≡ cond v 0 (suc (placed k (drop (i + 1) xs)))
+pub placed-turn : (k : ℕ) (xs : List ℕ) (i : ℕ) → i < length xs → (v : Bool) → eqb (getD xs i 0) k ≡ v
+    → placed k (drop i xs) ≡ cond v 0 (suc (placed k (drop (i + 1) xs)))
 unfolding placed
 placed-turn k xs i h v e = rw (next xs i h, e)
 
@@ -108,7 +109,7 @@ module _ (ws ks rs out : List ℕ) (i : ℕ) (p : Linkable ws ks rs) (x : Resolv
   unfolding resolveAll padded missing resolvedAs answered
   resolved-all h =
       let z : resolveAll ks (drop i ws) (drop i rs) ≡ [] = rw (drop-of-length-le ws {i = i} h) in
-      let t : take i out ≡ resolveAll ks ws rs = sym (append-nil (take i out)) ∙ ap (λ (y : List ℕ). take i out ++ y) (sym z) ∙ x .done in
+      let t : take i out ≡ resolveAll ks ws rs = rw (z, append-nil) at (x .done) in
       let l : length (resolveAll ks ws rs) ≡ length ws = length-resolved ks ws rs (p .even) in
       let n : i ≡ length ws = omega (arith, x .inside) in
       let o : out ≡ resolveAll ks ws rs ++ replicate (256 - length ws) 0 = sym (take-append-drop i out) ∙ rw (t, x .zeros, n) in

@@ -45,7 +45,8 @@ pub body-some : (s : List ℕ) → (length s ≡ 0 → ⊥)
 unfolding readBody key
 body-some [] e = absurd (e refl)
 body-some (b ∷ s) e =
-    cases (startsLabelled (b ∷ s)) (λ q. rw q (row-after (front isNameByte (b ∷ s)) (drop 1 (behind isNameByte (b ∷ s))))) (λ q. rw q (row-lined [] (tried forms (b ∷ s))))
+    let a = row-after (front isNameByte (b ∷ s)) (drop 1 (behind isNameByte (b ∷ s))) in
+    cases (startsLabelled (b ∷ s)) (λ q. rw q a) (λ q. rw q (row-lined [] (tried forms (b ∷ s))))
 
 -- ---- the label in front of a line
 
@@ -107,19 +108,13 @@ module _ (t : List ℕ) (at n : ℕ) (ws ks rs : List ℕ) (g : Going t at n ws 
   pub going-turn : (next : ℕ) (l : Line) → linesFrom t at ≡ l ∷ linesFrom t next → Turn t n ws ks rs next (row l)
   unfolding faulty
   going-turn next bad e = (λ k. sym (ap (faulty n) e) ∙ g .faults, λ k. absurd (omega arith), λ k m. absurd (k refl), λ k m. absurd (k refl))
-  going-turn next empty e = (
-    λ k. absurd (omega arith),
-    λ k. record {
-      few = g .few;
-      room = g .room;
-      faults = sym (ap (faulty n) e) ∙ g .faults;
-      words = rw e at (g .words);
-      labels = rw e at (g .labels);
-      refers = rw e at (g .refers);
-    },
-    λ k m. absurd (m refl),
-    λ k m. absurd (m refl),
-  )
+  going-turn next empty e =
+      let q = sym (ap (faulty n) e) ∙ g .faults in (
+        λ k. absurd (omega arith),
+        λ k. record { few = g .few; room = g .room; faults = q; words = rw e at (g .words); labels = rw e at (g .labels); refers = rw e at (g .refers) },
+        λ k m. absurd (m refl),
+        λ k m. absurd (m refl),
+      )
   going-turn next (word a w b) e =
       let m = g .room in (
         λ k. absurd (omega arith),
@@ -141,13 +136,8 @@ module _ (t : List ℕ) (at n : ℕ) (ws ks rs : List ℕ) (g : Going t at n ws 
   pub going-end : length t ≤ at → (0 ≡ faulty 0 (linesFrom t 0)) × Held (linesFrom t 0) n ws ks rs
   unfolding faulty lines
   going-end h =
-      let e : linesFrom t at ≡ [] = rw (drop-of-length-le t {i = at} h) in (
-        sym (ap (faulty n) e) ∙ g .faults,
-        record {
-          few = g .few;
-          room = g .room;
-          words = sym (append-nil (take n ws)) ∙ (rw e at (g .words));
-          labels = sym (append-nil (take n ks)) ∙ (rw e at (g .labels));
-          refers = sym (append-nil (take n rs)) ∙ (rw e at (g .refers));
-        },
-      )
+      let e : linesFrom t at ≡ [] = rw (drop-of-length-le t {i = at} h) in
+      let m : take n ws ≡ wordsOf (linesFrom t 0) = rw (e, append-nil) at (g .words) in
+      let j : take n ks ≡ map key (labelsOf (linesFrom t 0)) = rw (e, append-nil) at (g .labels) in
+      let k : take n rs ≡ map key (refersOf (linesFrom t 0)) = rw (e, append-nil) at (g .refers) in
+      (sym (ap (faulty n) e) ∙ g .faults, record { few = g .few; room = g .room; words = m; labels = j; refers = k })

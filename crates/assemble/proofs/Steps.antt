@@ -13,7 +13,8 @@ use lib.Dec.{eqb, ltb}
 use lib.ListN.{length, getD, take, drop, length-drop, take-append-drop, drop-of-length-le}
 use lib.Seq.{drop-cons, take-suc, getD-drop, drop-drop}
 use Rattle.isa.specs.Format.{hexDigit}
-use Rattle.assemble.specs.Grammar.{all, front, behind, isSpace, isNameByte, isLabel, digitIn, Token, letter, blank, digit, name, token, Form, form, forms, formAt, Found, none, found, atEnd, scan, orElse, tried}
+use Rattle.assemble.specs.Grammar.{all, front, behind, isSpace, isNameByte, isLabel, digitIn}
+use Rattle.assemble.specs.Grammar.{Token, letter, blank, digit, name, token, Form, form, forms, formAt, Found, none, found, atEnd, scan, orElse, tried}
 use Rattle.assemble.specs.Assembly.{key}
 use Rattle.assemble.specs.Reading.{passing, Passed, labelKey, unread, seen, ended, keyed, after, Next}
 use Rattle.assemble.specs.declared.forms.Seen.{Seen}
@@ -109,7 +110,9 @@ keyed-scan (blank ∷ t) w r [] = refl
 keyed-scan (blank ∷ t) w r (b ∷ s) = seen-cond (scan t w r (behind isSpace s)) (isSpace b) (keyed-scan t w r (behind isSpace s))
 keyed-scan (digit m ∷ t) w r [] = refl
 keyed-scan (digit m ∷ t) w r (b ∷ s) = seen-cond (scan t (w + m * digitIn b) r s) (ltb (digitIn b) 16) (keyed-scan t (w + m * digitIn b) r s)
-keyed-scan (name ∷ t) w r s = seen-cond (scan t w (front isNameByte s) (behind isNameByte s)) (isLabel (front isNameByte s)) (keyed-scan t w (front isNameByte s) (behind isNameByte s))
+keyed-scan (name ∷ t) w r s =
+    let l = front isNameByte s in
+    seen-cond (scan t w l (behind isNameByte s)) (isLabel l) (keyed-scan t w l (behind isNameByte s))
 
 -- ---- the forms in turn
 

@@ -1,7 +1,4 @@
 -- Assumes nothing.
-use Prim.Native.Nat.{ℕ, suc, _≤_, _<_, zero-le}
-use native.Mathlib.Omega.{arith}
-use mathlib.Core.Path.{_≡_}
 use Rattle.assemble.specs.Grammar.{forms}
 use Rattle.isa.proofs.Truths.{last-arm}
 use borrow.Author.Needs.{needs}
