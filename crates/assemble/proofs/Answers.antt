@@ -6,26 +6,28 @@ use native.Mathlib.Nat.{mul-le-mul-left}
 use mathlib.Core.Path.{_≡_, refl, sym, ap, _∙_}
 use mathlib.Core.Bool.{Bool, true, false, cond}
 use mathlib.Core.List.{List, [], _∷_, _++_, map}
-use borrow.Author.Tests.{ne-eqb, ltb-true, eqb-true, lt-ltb, le-ltb, eqb-false}
+use borrow.Author.Tests.{ne-eqb, ltb-true, eqb-true, lt-ltb, le-ltb}
+use borrow.Table.Steps.{cases}
 use lib.Dec.{eqb, ltb}
 use lib.ListN.{length, getD, take, drop, replicate, length-take, length-append, length-replicate}
 use lib.Seq.{take-append-seam}
 use Rattle.isa.specs.Text.{padded}
 use Rattle.assemble.specs.Grammar.{Token, letter, blank, digit, name, forms, formAt, counted, referred, Digits, Instruction}
 use Rattle.assemble.specs.Lines.{Line, bad, empty, word, readLine}
-use Rattle.assemble.specs.Assembly.{lines, wordsOf, labelsOf, refersOf, Accepted, faulty, key, doubled, missing, unless, labelRefusal, linesRefusal, refusal, placed, resolved, resolveAll, linesImage, image, Image}
+use Rattle.assemble.specs.Assembly.{lines, wordsOf, labelsOf, refersOf, Accepted, faulty, key, doubled}
+use Rattle.assemble.specs.Assembly.{linesRefusal, refusal, placed, resolved, resolveAll, linesImage, image, Image}
 use Rattle.assemble.specs.Reading.{linesFrom, Held, Linkable, resolvedAs, linked}
-use Rattle.encoding.specs.Bytes.{over, bigEndians, written}
+use Rattle.encoding.specs.Bytes.{over, written}
 use Rattle.encoding.proofs.Numbers.{length-bigEndians}
 use Rattle.encoding.proofs.Written.{written-fits}
 use Rattle.listing.specs.Listing.{listingOf}
 use Rattle.encoding.specs.Answer.{Outcome, outcome}
-use Rattle.assemble.specs.Answer.{answered, assembled, imageBytes, unlessRefused, bytesOutcome}
+use Rattle.assemble.specs.Answer.{answered, assembled, imageBytes, bytesRefusal, unlessRefused, bytesOutcome}
 use Rattle.assemble.specs.declared.Assembled.{Assembled}
 use Rattle.assemble.specs.declared.Built.{Built}
 use Rattle.assemble.specs.declared.Built.the-variants.{Written, Refused}
 use Rattle.assemble.proofs.Scans.{rest-digits}
-use Rattle.isa.proofs.Truths.{below, tested}
+use Rattle.isa.proofs.Truths.{tested}
 use Rattle.assemble.proofs.Exact.{word-line-exact}
 use Rattle.assemble.proofs.Texts.{served-accepted, accepted-served, even-labels, even-refers, accepted-image}
 use Rattle.assemble.proofs.RoundTrip.{round-trip}
@@ -38,11 +40,7 @@ abbrev spare : ℕ → ℕ
 spare k = cond (eqb k 0) 0 256
 
 spare-most : (k : ℕ) → spare k ≤ 256
-spare-most k = go (eqb k 0)
-  where
-    go : (v : Bool) → cond v 0 256 ≤ 256
-    go true = omega arith
-    go false = omega arith
+spare-most k = cases (eqb k 0) (λ e. rw e (omega arith)) (λ e. rw e (omega arith))
 
 -- what the digits and the label of a form can add
 unfoldable heft : List Token → ℕ
@@ -66,54 +64,38 @@ counted-most (name ∷ t) ds l r w h =
     let m = spare-most (key l) in
     omega arith
 
-light : ℕ → Bool
-light f = ltb (formAt forms f .base + heft (formAt forms f .pattern)) 65536
-
-all-light : below light 17 ≡ true
-unfolding forms heft light
-all-light = refl
-
 form-light : (f : ℕ) → f < 17 → formAt forms f .base + heft (formAt forms f .pattern) < 65536
-unfolding light
-form-light f h = ltb-true (formAt forms f .base + heft (formAt forms f .pattern)) 65536 (tested light 17 all-light f h)
+unfolding forms heft
+form-light f h = ltb-true _ 65536 (tested (λ (k : ℕ). ltb (formAt forms k .base + heft (formAt forms k .pattern)) 65536) 17 refl f h)
 
-instruction-small : (s : List ℕ) (w : ℕ) (r : List ℕ) → Instruction s w r → w + spare (key r) < 65536
+instruction-small : {s : List ℕ} {w : ℕ} {r : List ℕ} → Instruction s w r → w + spare (key r) < 65536
 unfolding key forms
-instruction-small s w r i =
+instruction-small i =
     let f = formAt forms (i .which) in
     let m = counted-most (f .pattern) (i .fits .digits) (i .fits .label) [] (f .base) (i .fits .hexadecimal) in
-    let l = form-light (i .which) (i .known) in
-    rw (i .fits .word, i .fits .refers) (omega (arith, m, l))
+    rw (i .fits .word, i .fits .refers) (omega (arith, m, form-light (i .which) (i .known)))
 
-read-small : (s l : List ℕ) (w : ℕ) (r : List ℕ) → readLine s ≡ word l w r → w + spare (key r) < 65536
-read-small s l w r e = let x = word-line-exact s l w r .0 e in instruction-small (x .body) w r (x .instructs)
+-- every word has 16 bits, also with an address added where it refers to a label
+abbrev Small : List Line → Type 0
+Small ls = (i : ℕ) → getD (wordsOf ls) i 0 + spare (getD (map key (refersOf ls)) i 0) < 65536
 
-lines-small : (ss : List (List ℕ)) (i : ℕ) → getD (wordsOf (map readLine ss)) i 0 + spare (getD (map key (refersOf (map readLine ss))) i 0) < 65536
-lines-small [] i = omega arith
-lines-small (s ∷ ss) i = go (readLine s) refl i (lines-small ss)
+lines-small : (ss : List (List ℕ)) → Small (map readLine ss)
+lines-small [] = λ i. omega arith
+lines-small (s ∷ ss) = go (readLine s) refl (lines-small ss)
   where
-    go : (l : Line) → readLine s ≡ l → (i : ℕ) → ((i : ℕ) → getD (wordsOf (map readLine ss)) i 0 + spare (getD (map key (refersOf (map readLine ss))) i 0) < 65536)
-        → getD (wordsOf (l ∷ map readLine ss)) i 0 + spare (getD (map key (refersOf (l ∷ map readLine ss))) i 0) < 65536
-    go bad e i f = f i
-    go empty e i f = f i
-    go (word l w r) e zero f = read-small s l w r e
-    go (word l w r) e (suc i) f = f i
+    go : (l : Line) → readLine s ≡ l → Small (map readLine ss) → Small (l ∷ map readLine ss)
+    go bad e f i = f i
+    go empty e f i = f i
+    go (word l w r) e f zero = instruction-small (word-line-exact s l w r .0 e .instructs)
+    go (word l w r) e f (suc i) = f i
 
 placed-most : (k : ℕ) (xs : List ℕ) → placed k xs ≤ length xs
 unfolding placed
 placed-most k [] = omega arith
-placed-most k (x ∷ xs) = go (eqb x k) (placed-most k xs)
-  where
-    go : (v : Bool) → placed k xs ≤ length xs → cond v 0 (suc (placed k xs)) ≤ suc (length xs)
-    go true h = omega arith
-    go false h = omega arith
+placed-most k (x ∷ xs) = cases (eqb x k) (λ e. rw e (omega arith)) (λ e. rw e (omega (arith, placed-most k xs)))
 
 resolved-small : (ks : List ℕ) (w r : ℕ) → length ks ≤ 256 → w + spare r < 65536 → resolved ks w r < 65536
-resolved-small ks w r h = go (eqb r 0)
-  where
-    go : (v : Bool) → w + cond v 0 256 < 65536 → w + cond v 0 (placed r ks) < 65536
-    go true k = k
-    go false k = omega (arith, placed-most r ks)
+resolved-small ks w r h k = cases (eqb r 0) (λ e. rw e (rw e at k)) (λ e. rw e (omega (arith, placed-most r ks, rw e at k)))
 
 -- ---- the answer
 
@@ -121,36 +103,27 @@ module _ (t : List ℕ) (n : ℕ) (ws ks rs : List ℕ) (h : Held (linesFrom t 0
   pub held-linkable : Linkable (take n ws) (take n ks) (take n rs)
   held-linkable =
       let ls = linesFrom t 0 in
+      let ks = map key (labelsOf ls) in
+      let rs = map key (refersOf ls) in
       let m : length (wordsOf ls) ≤ 256 = rw (← h .words, length-take) (omega (arith, h .few)) in
-      rw (h .words, h .labels, h .refers) (record {
-        few = m;
-        even = even-refers ls;
-        small = λ i g. resolved-small (map key (labelsOf ls)) (getD (wordsOf ls) i 0) (getD (map key (refersOf ls)) i 0) (omega (arith, even-labels ls, m)) (lines-small (lines t) i);
-      })
+      let f : length ks ≤ 256 = omega (arith, even-labels ls, m) in
+      let b : Small ls = lines-small (lines t) in
+      rw (h .words, h .labels, h .refers) (record { few = m; even = even-refers ls; small = λ i g. resolved-small ks (getD (wordsOf ls) i 0) (getD rs i 0) f (b i) })
 
   pub held-answer : 0 ≡ faulty 0 (linesFrom t 0) → linked (take n ws) (take n ks) (take n rs) ≡ assembled t
   unfolding linked assembled refusal linesRefusal image linesImage
   held-answer e = rw (h .words, h .labels, h .refers, ← e)
 
-unless-some : (a b : ℕ) → (a ≡ 0 → ⊥) → unless a b ≡ a
-unless-some zero b n = absurd (n refl)
-unless-some (suc a) b n = refl
-
 pub fault-answer : (t : List ℕ) (r : ℕ) → r ≡ faulty 0 (linesFrom t 0) → (r ≡ 0 → ⊥) → answered r [] ≡ assembled t
 unfolding assembled refusal linesRefusal
-fault-answer t r e n =
-    let ls = linesFrom t 0 in
-    let z : unless (faulty 0 ls) (labelRefusal (map key (labelsOf ls)) (map key (refersOf ls))) ≡ r = unless-some (faulty 0 ls) _ (λ q. n (e ∙ q)) ∙ sym e in
-    answered-refused r (image t) n ∙ ap (λ (x : ℕ). answered x (image t)) (sym z)
+fault-answer t zero e n = absurd (n refl)
+fault-answer t (suc r) e n = rw (← e) (answered-refused (suc r) (image t) n)
 
-module _ (ws ks rs : List ℕ) where
-  pub linked-doubled : doubled ks ≡ true → answered 12 [] ≡ linked ws ks rs
-  unfolding linked
-  linked-doubled e = rw e (answered-refused 12 (resolveAll ks ws rs) (λ q. omega (arith, q)))
-
-  pub linked-once : doubled ks ≡ false → resolvedAs ws ks rs ≡ linked ws ks rs
-  unfolding linked resolvedAs
-  linked-once e = rw e
+-- whether a label stands on two lines
+pub linked-by : (ws ks rs : List ℕ) (v : Bool) → doubled ks ≡ v → cond v (answered 12 []) (resolvedAs ws ks rs) ≡ linked ws ks rs
+unfolding linked resolvedAs
+linked-by ws ks rs true e = rw e (answered-refused 12 (resolveAll ks ws rs) (λ q. omega (arith, q)))
+linked-by ws ks rs false e = rw e
 
 -- ---- what a caller reads off the answer
 
@@ -161,33 +134,28 @@ image-few t e =
     let f = served-accepted t e .few in
     rw (length-resolved (map key (labelsOf ls)) (wordsOf ls) (map key (refersOf ls)) (even-refers ls)) f
 
--- the answer a has the words of an accepted text's image in front
-module _ (t : List ℕ) (a : Assembled) (e : a ≡ assembled t) where
-  pub told-refused : a .refused ≡ refusal t
-  unfolding assembled answered
-  told-refused = ap (λ (x : Assembled). x .refused) e
+-- where nothing is refused, the answer a has the words of the image in front
+pub record Said (t : List ℕ) (a : Assembled) : Type 0 where
+  pub clean : refusal t ≡ 0
+  pub long : a .count ≡ length (image t)
+  pub few : a .count ≤ 256
+  pub room : length (a .words) ≡ 256
+  pub words : take (a .count) (a .words) ≡ image t
 
-  pub told-count : a .refused ≡ 0 → a .count ≡ length (image t)
-  unfolding assembled answered
-  told-count z = ap (λ (x : Assembled). x .count) e ∙ rw (sym told-refused ∙ z)
-
-  pub told-length : length (a .words) ≡ 256
-  unfolding assembled answered padded
-  told-length = ap (λ (x : Assembled). length (x .words)) e ∙ go (eqb (refusal t) 0) refl
-    where
-      go : (v : Bool) → eqb (refusal t) 0 ≡ v → length (cond v (image t) [] ++ replicate (256 - length (cond v (image t) [])) 0) ≡ 256
-      go true q = let f = image-few t (eqb-true (refusal t) 0 q) in rw (length-append, length-replicate) (omega arith)
-      go false q = refl
-
-  pub told-few : a .refused ≡ 0 → a .count ≤ 256
-  told-few z = rw (told-count z) (image-few t (sym told-refused ∙ z))
-
-  pub told-image : a .refused ≡ 0 → take (a .count) (a .words) ≡ image t
-  unfolding assembled answered padded
-  told-image z =
-      let q : refusal t ≡ 0 = sym told-refused ∙ z in
-      let w : a .words ≡ image t ++ replicate (256 - length (image t)) 0 = ap (λ (x : Assembled). x .words) e ∙ rw q in
-      rw (told-count z, w) (take-append-seam (image t) (replicate (256 - length (image t)) 0))
+pub said : (t : List ℕ) (a : Assembled) → a ≡ assembled t → a .refused ≡ 0 → Said t a
+unfolding assembled answered padded
+said t a e z =
+    let q : refusal t ≡ 0 = sym (ap (λ (x : Assembled). x .refused) e) ∙ z in
+    let f = image-few t q in
+    let c : a .count ≡ length (image t) = ap (λ (x : Assembled). x .count) e ∙ rw q in
+    let w : a .words ≡ image t ++ replicate (256 - length (image t)) 0 = ap (λ (x : Assembled). x .words) e ∙ rw q in
+    record {
+      clean = q;
+      long = c;
+      few = rw c f;
+      room = rw (w, length-append, length-replicate) (omega arith);
+      words = rw (c, w) (take-append-seam (image t) (replicate (256 - length (image t)) 0));
+    }
 
 -- ---- the answer of assembling into a buffer
 
@@ -217,22 +185,15 @@ pub listing-answer : (ws : List ℕ) → length ws ≤ 256 → ((a : ℕ) → ge
 unfolding assembled
 listing-answer ws h b = let r = round-trip ws h b in rw (r .0, r .1)
 
+granted-answer : (r : ℕ) (out : List ℕ) (o : Outcome Built) (n : ℕ) → unlessRefused r out o .answer ≡ Written n → (r ≡ 0) × (o .answer ≡ Written n)
+granted-answer zero out o n e = (refl, e)
+granted-answer (suc r) out o n e = let y : _≡_ {A = ℕ} 0 1 = cc in absurd (omega arith)
+
 -- a length that is answered is at most that of 256 words
 pub bytes-at-most : (t out : List ℕ) {n : ℕ} → bytesOutcome t out .answer ≡ Written n → n ≤ 512
 unfolding bytesOutcome
-bytes-at-most t out {n} h = go (eqb (refusal t) 0) refl (ltb (length out) (2 * length (image t))) h
-  where
-    call : ℕ → Outcome Built
-    call r = unlessRefused r out (outcome (Written (2 * length (image t))) (over out 0 (imageBytes t)))
-
-    never : (r : ℕ) → (r ≡ 0 → ⊥) → call r .answer ≡ Written n → n ≤ 512
-    never zero z e = absurd (z refl)
-    never (suc r) z e = let y : _≡_ {A = ℕ} 0 1 = cc in absurd (omega arith)
-
-    go : (v : Bool) → eqb (refusal t) 0 ≡ v → (u : Bool) → call (cond v (cond u 5 0) (refusal t)) .answer ≡ Written n → n ≤ 512
-    go true q true e = let y : _≡_ {A = ℕ} 0 1 = cc in absurd (omega arith)
-    go true q false e =
-        let f = image-few t (eqb-true (refusal t) 0 q) in
-        let y : 2 * length (image t) ≡ n = cc in
-        omega arith
-    go false q u e = never (refusal t) (eqb-false (refusal t) 0 q) e
+bytes-at-most t out {n} h =
+    let p = granted-answer (bytesRefusal t (length out)) out (outcome (Written (2 * length (image t))) (over out 0 (imageBytes t))) n h in
+    let z : refusal t ≡ 0 = cases (eqb (refusal t) 0) (λ q. eqb-true (refusal t) 0 q) (λ q. rw q at (p .0)) in
+    let y : 2 * length (image t) ≡ n = cc (p .1) in
+    omega (arith, image-few t z)

@@ -3,42 +3,24 @@
 use Prim.Native.Nat.{ℕ, zero, suc, _+_, _*_, _<_}
 use native.Mathlib.Omega.{arith}
 use mathlib.Core.Logic.{_↔_}
-use mathlib.Core.Path.{_≡_, refl, sym, ap, _∙_}
+use mathlib.Core.Path.{_≡_, refl, ap, _∙_}
 use mathlib.Core.Bool.{Bool, true, false, cond, not, _&&_}
 use mathlib.Core.List.{List, [], _∷_, _++_}
-use borrow.Author.Tests.{lt-ltb, ne-eqb, not-true}
+use borrow.Author.Tests.{lt-ltb, not-true}
+use borrow.Table.Steps.{cases}
 use lib.Dec.{eqb, ltb}
 use lib.ListN.{length, getD, drop}
 use Rattle.isa.specs.Format.{hexDigit}
-use Rattle.isa.proofs.Truths.{both}
-use Rattle.assemble.specs.Grammar.{isLabel, digitIn, Token, letter, blank, digit, name, Form, forms, formAt}
-use Rattle.assemble.specs.Grammar.{made, counted, referred, Digits, Fits, Instruction, Found, none, found, scan, orElse, tried}
-use Rattle.assemble.proofs.Scans.{false-true, none-found, digit-read, label-first, skip-spaces, solid, solid-made, rest-digits, neat, scan-made, scanned}
+use Rattle.isa.proofs.Truths.{both, below, tested}
+use Rattle.assemble.specs.Grammar.{isSpace, isLabel, digitIn, Token, letter, blank, digit, name, Form, forms, formAt}
+use Rattle.assemble.specs.Grammar.{made, Digits, Fits, Instruction, Found, none, found, scan, orElse, tried}
+use Rattle.assemble.proofs.Scans.{false-true, none-found, digit-read, label-first, skip-spaces, solid, stops-made, rest-digits, neat, scan-made, scanned}
 
 -- ---- two patterns
 
--- what the second makes is not read by the first: at the first place where they differ, one byte does not do for both
-abbrev apart : List Token → List Token → Bool
-apart [] u = false
-apart (letter a ∷ t) [] = false
-apart (letter a ∷ t) (letter b ∷ u) = cond (eqb b a) (apart t u) true
-apart (letter a ∷ t) (blank ∷ u) = false
-apart (letter a ∷ t) (digit k ∷ u) = not (ltb (digitIn a) 16)
-apart (letter a ∷ t) (name ∷ u) = false
-apart (blank ∷ t) [] = false
-apart (blank ∷ t) (letter b ∷ u) = false
-apart (blank ∷ t) (blank ∷ u) = solid u && apart t u
-apart (blank ∷ t) (digit k ∷ u) = false
-apart (blank ∷ t) (name ∷ u) = false
-apart (digit j ∷ t) [] = false
-apart (digit j ∷ t) (letter b ∷ u) = not (ltb (digitIn b) 16)
-apart (digit j ∷ t) (blank ∷ u) = false
-apart (digit j ∷ t) (digit k ∷ u) = apart t u
-apart (digit j ∷ t) (name ∷ u) = true
-apart (name ∷ t) u = false
-
-digit-other : (a d : ℕ) → ltb (digitIn a) 16 ≡ false → d < 16 → eqb (hexDigit d) a ≡ false
-digit-other a d e h = ne-eqb (hexDigit d) a (λ q. let k : digitIn a ≡ d = rw (← q) (digit-read d h) in false-true (sym e ∙ rw k (lt-ltb d 16 h)))
+-- what u makes is not read by t
+abbrev Apart : List Token → List Token → Type 0
+Apart t u = (ds l gs : List ℕ) (w : ℕ) (r : List ℕ) → Digits ds → isLabel l ≡ true → scan t w r (made u ds l gs) ≡ none
 
 -- a label's first byte is L, which is no digit
 label-no-digit : (t : List Token) (j w : ℕ) (r l x : List ℕ) → isLabel l ≡ true → scan (digit j ∷ t) w r (l ++ x) ≡ none
@@ -46,33 +28,42 @@ unfolding scan
 label-no-digit t j w r [] x n = false-true n
 label-no-digit t j w r (b ∷ l) x n = rw (label-first (b ∷ l) n)
 
-apart-none : (t u : List Token) (ds l gs : List ℕ) (w : ℕ) (r : List ℕ) → apart t u ≡ true → Digits ds → isLabel l ≡ true → scan t w r (made u ds l gs) ≡ none
+-- known where, at the first place where they differ, one byte does not do for both
+unfoldable apart : (t u : List Token) → (v : Bool) × (v ≡ true → Apart t u)
 unfolding scan made
-apart-none [] u ds l gs w r e h n = false-true e
-apart-none (letter a ∷ t) [] ds l gs w r e h n = false-true e
-apart-none (letter a ∷ t) (letter b ∷ u) ds l gs w r e h n = go (eqb b a) e (apart-none t u ds l gs w r)
-  where
-    go : (v : Bool) → cond v (apart t u) true ≡ true → (apart t u ≡ true → Digits ds → isLabel l ≡ true → scan t w r (made u ds l gs) ≡ none) → cond v (scan t w r (made u ds l gs)) none ≡ none
-    go true k f = f k h n
-    go false k f = refl
-apart-none (letter a ∷ t) (blank ∷ u) ds l gs w r e h n = false-true e
-apart-none (letter a ∷ t) (digit k ∷ u) ds l gs w r e h n = rw (digit-other a (getD ds 0 0) (not-true (ltb (digitIn a) 16) e) (h 0))
-apart-none (letter a ∷ t) (name ∷ u) ds l gs w r e h n = false-true e
-apart-none (blank ∷ t) [] ds l gs w r e h n = false-true e
-apart-none (blank ∷ t) (letter b ∷ u) ds l gs w r e h n = false-true e
-apart-none (blank ∷ t) (blank ∷ u) ds l gs w r e h n =
-    rw (skip-spaces (getD gs 0 0) (made u ds l (drop 1 gs)), solid-made u ds l (drop 1 gs) h (both (solid u) (apart t u) e .0))
-    (apart-none t u ds l (drop 1 gs) w r (both (solid u) (apart t u) e .1) h n)
-apart-none (blank ∷ t) (digit k ∷ u) ds l gs w r e h n = false-true e
-apart-none (blank ∷ t) (name ∷ u) ds l gs w r e h n = false-true e
-apart-none (digit j ∷ t) [] ds l gs w r e h n = false-true e
-apart-none (digit j ∷ t) (letter b ∷ u) ds l gs w r e h n = rw (not-true (ltb (digitIn b) 16) e)
-apart-none (digit j ∷ t) (blank ∷ u) ds l gs w r e h n = false-true e
-apart-none (digit j ∷ t) (digit k ∷ u) ds l gs w r e h n =
-    rw (digit-read (getD ds 0 0) (h 0), lt-ltb (getD ds 0 0) 16 (h 0))
-    (apart-none t u (drop 1 ds) l gs (w + j * getD ds 0 0) r e (rest-digits ds h) n)
-apart-none (digit j ∷ t) (name ∷ u) ds l gs w r e h n = label-no-digit t j w r l (made u ds l gs) n
-apart-none (name ∷ t) u ds l gs w r e h n = false-true e
+apart [] u = (false, false-true)
+apart (letter a ∷ t) [] = (false, false-true)
+apart (letter a ∷ t) (letter b ∷ u) =
+    let k = apart t u in
+    (cond (eqb b a) (k .0) true, λ e ds l gs w r h n. cases (eqb b a) (λ q. rw q (k .1 (rw q at e) ds l gs w r h n)) (λ q. rw q))
+apart (letter a ∷ t) (blank ∷ u) = (false, false-true)
+apart (letter a ∷ t) (digit k ∷ u) =
+    let f : ℕ → Bool = λ d. not (eqb (hexDigit d) a) in
+    (below f 16, λ e ds l gs w r h n. rw (not-true (eqb (hexDigit (getD ds 0 0)) a) (tested f 16 e (getD ds 0 0) (h 0))))
+apart (letter a ∷ t) (name ∷ u) = (false, false-true)
+apart (blank ∷ t) [] = (false, false-true)
+apart (blank ∷ t) (letter b ∷ u) = (false, false-true)
+apart (blank ∷ t) (blank ∷ u) =
+    let k = apart t u in (
+      solid u && k .0,
+      λ e ds l gs w r h n.
+          let p = both (solid u) (k .0) e in
+          rw (skip-spaces (getD gs 0 0) (made u ds l (drop 1 gs)), stops-made isSpace u ds l (drop 1 gs) h (p .0) .1) (k .1 (p .1) ds l (drop 1 gs) w r h n),
+    )
+apart (blank ∷ t) (digit k ∷ u) = (false, false-true)
+apart (blank ∷ t) (name ∷ u) = (false, false-true)
+apart (digit j ∷ t) [] = (false, false-true)
+apart (digit j ∷ t) (letter b ∷ u) = (not (ltb (digitIn b) 16), λ e ds l gs w r h n. rw (not-true (ltb (digitIn b) 16) e))
+apart (digit j ∷ t) (blank ∷ u) = (false, false-true)
+apart (digit j ∷ t) (digit k ∷ u) =
+    let m = apart t u in (
+      m .0,
+      λ e ds l gs w r h n.
+          let d = getD ds 0 0 in
+          rw (digit-read d (h 0), lt-ltb d 16 (h 0)) (m .1 e (drop 1 ds) l gs (w + j * d) r (rest-digits ds h) n),
+    )
+apart (digit j ∷ t) (name ∷ u) = (true, λ e ds l gs w r h n. label-no-digit t j w r l (made u ds l gs) n)
+apart (name ∷ t) u = (false, false-true)
 
 -- ---- a list of forms
 
@@ -85,58 +76,49 @@ each-form p [] i e h = absurd (omega arith)
 each-form p (f ∷ fs) zero e h = both (p f) (eachForm p fs) e .0
 each-form p (f ∷ fs) (suc i) e h = each-form p fs i (both (p f) (eachForm p fs) e .1) (omega arith)
 
--- each is apart from every later one
-abbrev separate : List Form → Bool
-separate [] = true
-separate (f ∷ fs) = eachForm (λ (g : Form). apart (f .pattern) (g .pattern)) fs && separate fs
+-- neat, and apart from every later one
+abbrev fit : Form → List Form → Bool
+fit f fs = neat (f .pattern) && eachForm (λ (g : Form). apart (f .pattern) (g .pattern) .0) fs
 
-abbrev neatForm : Form → Bool
-neatForm f = neat (f .pattern)
+abbrev sound : List Form → Bool
+sound [] = true
+sound (f ∷ fs) = fit f fs && sound fs
 
-forms-separate : separate forms ≡ true
-unfolding forms
-forms-separate = refl
-
-forms-neat : eachForm neatForm forms ≡ true
-unfolding forms
-forms-neat = refl
-
-tried-made : (fs : List Form) (i : ℕ) (ds l gs : List ℕ) → separate fs ≡ true → eachForm neatForm fs ≡ true → i < length fs → Digits ds → isLabel l ≡ true
-    → tried fs (made (formAt fs i .pattern) ds l gs) ≡ found (counted (formAt fs i .pattern) ds (formAt fs i .base)) (referred (formAt fs i .pattern) l [])
-unfolding tried
-tried-made [] i ds l gs e k h d n = absurd (omega arith)
-tried-made (f ∷ fs) zero ds l gs e k h d n = rw (scan-made (f .pattern) ds l gs (f .base) [] (both (neatForm f) (eachForm neatForm fs) k .0) d n)
-tried-made (f ∷ fs) (suc i) ds l gs e k h d n =
-    let p : Form → Bool = λ (g : Form). apart (f .pattern) (g .pattern) in
-    let s = both (eachForm p fs) (separate fs) e in
-    rw (apart-none (f .pattern) (formAt fs i .pattern) ds l gs (f .base) [] (each-form p fs i (s .0) (omega arith)) d n)
-    (tried-made fs i ds l gs (s .1) (both (neatForm f) (eachForm neatForm fs) k .1) (omega arith) d n)
+forms-sound : sound forms ≡ true
+unfolding forms apart
+forms-sound = refl
 
 abbrev Tried : List Form → List ℕ → ℕ → List ℕ → Type 0
 Tried fs s w r = (i : ℕ) × (i < length fs) × Fits (formAt fs i .pattern) (formAt fs i .base) [] s w r
 
-tried-fits : (fs : List Form) (s : List ℕ) (w : ℕ) (r : List ℕ) → eachForm neatForm fs ≡ true → tried fs s ≡ found w r → Tried fs s w r
+tried-made : (fs : List Form) (s : List ℕ) (w : ℕ) (r : List ℕ) → sound fs ≡ true → Tried fs s w r → tried fs s ≡ found w r
+unfolding tried
+tried-made [] s w r e (i, h, m) = absurd (omega arith)
+tried-made (f ∷ fs) s w r e (zero, h, m) =
+    let k = both (fit f fs) (sound fs) e in
+    let q = scan-made (f .pattern) (m .digits) (m .label) (m .gaps) (f .base) [] (both (neat (f .pattern)) _ (k .0) .0) (m .hexadecimal) (m .named) in
+    rw (m .text, q, ← m .word, ← m .refers)
+tried-made (f ∷ fs) s w r e (suc i, h, m) =
+    let p : Form → Bool = λ (g : Form). apart (f .pattern) (g .pattern) .0 in
+    let k = both (fit f fs) (sound fs) e in
+    let a = apart (f .pattern) (formAt fs i .pattern) .1 (each-form p fs i (both (neat (f .pattern)) _ (k .0) .1) (omega arith)) in
+    rw (ap (scan (f .pattern) (f .base) []) (m .text) ∙ a (m .digits) (m .label) (m .gaps) (f .base) [] (m .hexadecimal) (m .named))
+    (tried-made fs s w r (k .1) (i, omega arith, m))
+
+tried-fits : (fs : List Form) (s : List ℕ) (w : ℕ) (r : List ℕ) → sound fs ≡ true → tried fs s ≡ found w r → Tried fs s w r
 unfolding tried
 tried-fits [] s w r k e = none-found e
-tried-fits (f ∷ fs) s w r k e = go (scan (f .pattern) (f .base) [] s) refl e (tried-fits fs s w r (n .1))
+tried-fits (f ∷ fs) s w r k e = go (scan (f .pattern) (f .base) [] s) refl e (tried-fits fs s w r (both (fit f fs) (sound fs) k .1))
   where
-    n : (neatForm f ≡ true) × (eachForm neatForm fs ≡ true)
-    n = both (neatForm f) (eachForm neatForm fs) k
-
     go : (o : Found) → scan (f .pattern) (f .base) [] s ≡ o → orElse o (tried fs s) ≡ found w r → (tried fs s ≡ found w r → Tried fs s w r) → Tried (f ∷ fs) s w r
     go none q h g = let t = g h in (suc (t .0), omega (arith, t .1), t .2)
-    go (found v x) q h g = (0, omega arith, scanned (f .pattern) (f .base) [] s w r (n .0) (q ∙ h))
+    go (found v x) q h g =
+        let n = both (neat (f .pattern)) _ (both (fit f fs) (sound fs) k .0) .0 in
+        (0, omega arith, scanned (f .pattern) (f .base) [] s w r (76 ∷ 48 ∷ []) n refl (q ∙ h) .0)
 
 -- a text is read exactly where it is an instruction
 pub instruction-exact : (s : List ℕ) (w : ℕ) (r : List ℕ) → (tried forms s ≡ found w r) ↔ Instruction s w r
-instruction-exact s w r = (reads, fits)
-  where
-    reads : tried forms s ≡ found w r → Instruction s w r
-    reads e = let t = tried-fits forms s w r forms-neat e in record { which = t .0; known = t .1; fits = t .2 }
-
-    fits : Instruction s w r → tried forms s ≡ found w r
-    fits i =
-        let f = i .fits in
-        ap (tried forms) (f .text)
-        ∙ tried-made forms (i .which) (f .digits) (f .label) (f .gaps) forms-separate forms-neat (i .known) (f .hexadecimal) (f .named)
-        ∙ (λ k. found (sym (f .word) k) (sym (f .refers) k))
+instruction-exact s w r = (
+  λ e. let t = tried-fits forms s w r forms-sound e in record { which = t .0; known = t .1; fits = t .2 },
+  λ i. tried-made forms s w r forms-sound (i .which, i .known, i .fits),
+)

@@ -5,20 +5,22 @@ use native.Mathlib.Nat.{add-zero}
 use native.Mathlib.Omega.{arith}
 use native.Mathlib.Numerals.{add-one}
 use mathlib.Core.Path.{_≡_, refl, sym, ap, _∙_}
-use mathlib.Core.Bool.{Bool, true, false, cond, not}
+use mathlib.Core.Bool.{Bool, true, false, cond, and-true, and-false}
 use mathlib.Core.List.{List, [], _∷_, _++_, map, append-assoc, append-nil}
 use borrow.Author.Tests.{eq-eqb, ne-eqb, lt-ltb, le-ltb}
+use borrow.Table.Steps.{cases}
 use lib.Dec.{eqb}
-use lib.ListN.{length, getD, take, drop, set, length-drop, drop-of-length-le}
+use lib.ListN.{length, getD, take, drop, set, length-drop, length-set, drop-of-length-le}
 use lib.Seq.{take-all, take-suc-set, getD-drop}
 use Rattle.assemble.specs.Grammar.{front, behind, isSpace, isNameByte, isLabel, forms, Found, none, found, tried}
 use Rattle.assemble.specs.Lines.{Line, bad, empty, word, lined, startsLabelled, afterColon, readBody, readLine}
 use Rattle.assemble.specs.Assembly.{lines, inFront, wordsOf, labelsOf, refersOf, faulty, key}
-use Rattle.assemble.specs.Reading.{inLine, Passed, labelKey, seen, row, rowSeen, rowAfter, Labelled, LineAt, linesFrom, Held}
+use Rattle.assemble.specs.Reading.{inLine, Passed, labelKey, seen, row, rowSeen, rowAfter, Labelled, LineAt, linesFrom, Room, Held}
+use Rattle.assemble.specs.declared.lines.Row.{Row}
 use Rattle.assemble.specs.declared.text.Bounds.{Bounds}
+use Rattle.isa.proofs.Truths.{both}
 use Rattle.assemble.proofs.Scans.{false-true}
-use Rattle.assemble.proofs.Exact.{and-false}
-use Rattle.assemble.proofs.Steps.{label-none}
+use Rattle.assemble.proofs.Steps.{label-positive}
 
 -- the part of a list from a place on
 pub tail-whole : (s : List ℕ) (e : ℕ) → take (length s - e) (drop e s) ≡ drop e s
@@ -31,74 +33,49 @@ row-lined l none = refl
 row-lined l (found w r) = refl
 
 row-after : (l s : List ℕ) → row (afterColon l s) ≡ rowAfter (key l) s
-row-after l s = go (isSpace (getD s 0 0))
-  where
-    go : (v : Bool) → row (cond v (lined l (tried forms (behind isSpace s))) bad) ≡ cond v (rowSeen (key l) (seen (tried forms (behind isSpace s)))) (row bad)
-    go true = row-lined l (tried forms (behind isSpace s))
-    go false = refl
+row-after l s = cases (isSpace (getD s 0 0)) (λ e. rw e (row-lined l (tried forms (behind isSpace s)))) (λ e. rw e)
 
 pub body-none : (s : List ℕ) → length s ≡ 0 → row (readBody s) ≡ row empty
 unfolding readBody
 body-none [] e = refl
 body-none (b ∷ s) e = absurd (omega arith)
 
-body-some : (s : List ℕ) → (length s ≡ 0 → ⊥) → readBody s ≡ cond (startsLabelled s) (afterColon (front isNameByte s) (drop 1 (behind isNameByte s))) (lined [] (tried forms s))
-unfolding readBody
+pub body-some : (s : List ℕ) → (length s ≡ 0 → ⊥)
+    → row (readBody s) ≡ cond (startsLabelled s) (rowAfter (key (front isNameByte s)) (drop 1 (behind isNameByte s))) (rowSeen 0 (seen (tried forms s)))
+unfolding readBody key
 body-some [] e = absurd (e refl)
-body-some (b ∷ s) e = refl
-
-pub body-plain : (s : List ℕ) → (length s ≡ 0 → ⊥) → startsLabelled s ≡ false → row (readBody s) ≡ rowSeen 0 (seen (tried forms s))
-unfolding key
-body-plain s e n = ap row (body-some s e) ∙ rw n (row-lined [] (tried forms s))
-
-pub body-labelled : (s : List ℕ) → (length s ≡ 0 → ⊥) → startsLabelled s ≡ true → row (readBody s) ≡ rowAfter (key (front isNameByte s)) (drop 1 (behind isNameByte s))
-body-labelled s e n = ap row (body-some s e) ∙ rw n (row-after (front isNameByte s) (drop 1 (behind isNameByte s)))
+body-some (b ∷ s) e =
+    let a = row-after (front isNameByte (b ∷ s)) (drop 1 (behind isNameByte (b ∷ s))) in
+    cases (startsLabelled (b ∷ s)) (λ q. rw q a) (λ q. rw q (row-lined [] (tried forms (b ∷ s))))
 
 -- ---- the label in front of a line
 
 module _ (s : List ℕ) (e : ℕ) (p : Passed 1 s 0 e) where
+  -- where it is known whether the line begins with a label and a colon
+  labelled : (r : ℕ) (v : Bool) → startsLabelled s ≡ v → r ≡ cond v (key (front isNameByte s)) 0 → (v ≡ true → e < length s) → Labelled s e r
+  labelled r true q x g =
+      let h = label-positive (front isNameByte s) (both (isLabel (front isNameByte s)) _ q .0) in
+      record { keyed = rw q x; starts = λ n. q; misses = λ n. absurd (omega arith); inside = λ n. g refl }
+  labelled r false q x g = record { keyed = rw q x; starts = λ n. absurd (n x); misses = λ n. q; inside = λ n. absurd (n x) }
+
   colon-at : getD (behind isNameByte s) 0 0 ≡ getD s e 0
   colon-at = ap (λ (x : List ℕ). getD x 0 0) (sym (p .left)) ∙ getD-drop e s 0 0 ∙ ap (λ (n : ℕ). getD s n 0) (add-zero e)
 
-  unlabelled : startsLabelled s ≡ false → Labelled s e 0
-  unlabelled h = record { keyed = rw h; starts = λ n. absurd (n refl); misses = λ n. h; inside = λ n. absurd (n refl) }
-
   pub no-colon : (getD s e 0 ≡ 58 → ⊥) → Labelled s e 0
-  no-colon n = unlabelled (rw (colon-at, ne-eqb (getD s e 0) 58 n) (and-false (isLabel (front isNameByte s))))
+  no-colon n = labelled 0 false (rw (colon-at, ne-eqb (getD s e 0) 58 n) (and-false (isLabel (front isNameByte s)))) refl (λ z. false-true z)
 
   pub with-colon : (r : ℕ) → e < length s → getD s e 0 ≡ 58 → r ≡ labelKey (take (e - 0) s) → Labelled s e r
-  with-colon r g h k = go (isLabel (front isNameByte s)) refl (k ∙ ap labelKey (p .passed))
-    where
-      l : List ℕ
-      l = front isNameByte s
-
-      go : (v : Bool) → isLabel l ≡ v → r ≡ cond v (key l) 0 → Labelled s e r
-      go true q x =
-          let z : startsLabelled s ≡ true = rw (q, colon-at) (eq-eqb (getD s e 0) 58 h) in
-          record { keyed = rw z x; starts = λ n. z; misses = λ n. absurd (no-zero q (sym x ∙ n)); inside = λ n. g }
-        where
-          no-zero : isLabel l ≡ true → key l ≡ 0 → ⊥
-          no-zero q n = false-true (sym (label-none l (rw q n)) ∙ q)
-      go false q x =
-          let z : startsLabelled s ≡ false = rw q in
-          record { keyed = rw z x; starts = λ n. absurd (n x); misses = λ n. z; inside = λ n. absurd (n x) }
+  with-colon r g h k =
+      let l = front isNameByte s in
+      labelled r (isLabel l) (rw (colon-at, eq-eqb (getD s e 0) 58 h) (and-true (isLabel l))) (k ∙ ap labelKey (p .passed)) (λ z. g)
 
 -- ---- the lines of a text
 
 pub lines-first : (s : List ℕ) → 0 < length s → lines s ≡ front inLine s ∷ lines (drop 1 (behind inLine s))
 unfolding lines
 lines-first [] h = absurd (omega arith)
-lines-first (b ∷ []) h = go (eqb b 10)
-  where
-    go : (v : Bool) → cond v ([] ∷ []) ((b ∷ []) ∷ []) ≡ cond (not v) (b ∷ []) [] ∷ lines (drop 1 (cond (not v) [] (b ∷ [])))
-    go true = refl
-    go false = refl
-lines-first (b ∷ c ∷ s) h = go (eqb b 10) (lines-first (c ∷ s) (omega arith))
-  where
-    go : (v : Bool) → lines (c ∷ s) ≡ front inLine (c ∷ s) ∷ lines (drop 1 (behind inLine (c ∷ s)))
-        → cond v ([] ∷ lines (c ∷ s)) (inFront b (lines (c ∷ s))) ≡ cond (not v) (b ∷ front inLine (c ∷ s)) [] ∷ lines (drop 1 (cond (not v) (behind inLine (c ∷ s)) (b ∷ c ∷ s)))
-    go true e = refl
-    go false e = ap (inFront b) e
+lines-first (b ∷ []) h = cases (eqb b 10) (λ e. rw e) (λ e. rw e)
+lines-first (b ∷ c ∷ s) h = cases (eqb b 10) (λ e. rw e) (λ e. rw e (ap (inFront b) (lines-first (c ∷ s) (omega arith))))
 
 pub lines-next : (t : List ℕ) (at : ℕ) (b : Bounds) → at < length t → LineAt t at b → linesFrom t at ≡ readLine (take (b .end - at) (drop at t)) ∷ linesFrom t (b .next)
 lines-next t at b h x =
@@ -109,68 +86,58 @@ lines-next t at b h x =
 
 -- what is collected, with what is left to read, is what all lines give
 pub record Going (t : List ℕ) (at n : ℕ) (ws ks rs : List ℕ) : Type 0 where
+  pub few : n ≤ 256
+  pub room : Room ws ks rs
   pub faults : faulty n (linesFrom t at) ≡ faulty 0 (linesFrom t 0)
   pub words : take n ws ++ wordsOf (linesFrom t at) ≡ wordsOf (linesFrom t 0)
   pub labels : take n ks ++ map key (labelsOf (linesFrom t at)) ≡ map key (labelsOf (linesFrom t 0))
   pub refers : take n rs ++ map key (refersOf (linesFrom t at)) ≡ map key (refersOf (linesFrom t 0))
 
-pub going-first : (t ws ks rs : List ℕ) → Going t 0 0 ws ks rs
-going-first t ws ks rs = record { faults = refl; words = refl; labels = refl; refers = refl }
+stored : (xs ys : List ℕ) (n v : ℕ) → n < length xs → take (n + 1) (set xs n v) ++ ys ≡ take n xs ++ (v ∷ ys)
+stored xs ys n v h = rw (add-one, take-suc-set xs n v h, append-assoc)
 
-stored : (xs ys zs : List ℕ) (n v : ℕ) → n < length xs → take n xs ++ (v ∷ ys) ≡ zs → take (n + 1) (set xs n v) ++ ys ≡ zs
-stored xs ys zs n v h e = rw (add-one, take-suc-set xs n v h, append-assoc) e
+-- after the row of a line that breaks the grammar, of an empty one, and of one with an instruction, for which there is room or not
+abbrev pub Turn : List ℕ → ℕ → List ℕ → List ℕ → List ℕ → ℕ → Row → Type 0
+Turn t n ws ks rs next r =
+    (r .kind ≡ 0 → 11 ≡ faulty 0 (linesFrom t 0))
+    × (r .kind ≡ 1 → Going t next n ws ks rs)
+    × ((r .kind ≡ 0 → ⊥) → (r .kind ≡ 1 → ⊥) → n ≡ 256 → 13 ≡ faulty 0 (linesFrom t 0))
+    × ((r .kind ≡ 0 → ⊥) → (r .kind ≡ 1 → ⊥) → (n ≡ 256 → ⊥) → Going t next (n + 1) (set ws n (r .word)) (set ks n (r .label)) (set rs n (r .refers)))
 
-module _ (t : List ℕ) (at n : ℕ) (ws ks rs : List ℕ) (next : ℕ) (g : Going t at n ws ks rs) where
-  pub going-bad : (l : Line) → linesFrom t at ≡ l ∷ linesFrom t next → row l .kind ≡ 0 → 11 ≡ faulty 0 (linesFrom t 0)
+module _ (t : List ℕ) (at n : ℕ) (ws ks rs : List ℕ) (g : Going t at n ws ks rs) where
+  pub going-turn : (next : ℕ) (l : Line) → linesFrom t at ≡ l ∷ linesFrom t next → Turn t n ws ks rs next (row l)
   unfolding faulty
-  going-bad bad e k = sym (ap (faulty n) e) ∙ g .faults
-  going-bad empty e k = absurd (omega arith)
-  going-bad (word a w b) e k = absurd (omega arith)
+  going-turn next bad e = (λ k. sym (ap (faulty n) e) ∙ g .faults, λ k. absurd (omega arith), λ k m. absurd (k refl), λ k m. absurd (k refl))
+  going-turn next empty e =
+      let q = sym (ap (faulty n) e) ∙ g .faults in (
+        λ k. absurd (omega arith),
+        λ k. record { few = g .few; room = g .room; faults = q; words = rw e at (g .words); labels = rw e at (g .labels); refers = rw e at (g .refers) },
+        λ k m. absurd (m refl),
+        λ k m. absurd (m refl),
+      )
+  going-turn next (word a w b) e =
+      let m = g .room in (
+        λ k. absurd (omega arith),
+        λ k. absurd (omega arith),
+        λ k j f. sym (ap (faulty n) e ∙ rw (le-ltb n 256 (omega arith))) ∙ g .faults,
+        λ k j f.
+            let h : n < 256 = omega (arith, g .few) in
+            record {
+              few = omega arith;
+              room = (length-set ws n w ∙ m .0, length-set ks n (key a) ∙ m .1, length-set rs n (key b) ∙ m .2);
+              faults = rw add-one (sym (ap (faulty n) e ∙ rw (lt-ltb n 256 h)) ∙ g .faults);
+              words = stored ws _ n w (omega (arith, m .0)) ∙ (rw e at (g .words));
+              labels = stored ks _ n (key a) (omega (arith, m .1)) ∙ (rw e at (g .labels));
+              refers = stored rs _ n (key b) (omega (arith, m .2)) ∙ (rw e at (g .refers));
+            },
+      )
 
-  pub going-empty : (l : Line) → linesFrom t at ≡ l ∷ linesFrom t next → row l .kind ≡ 1 → Going t next n ws ks rs
-  unfolding faulty
-  going-empty bad e k = absurd (omega arith)
-  going-empty empty e k = record {
-    faults = sym (ap (faulty n) e) ∙ g .faults;
-    words = rw e at (g .words);
-    labels = rw e at (g .labels);
-    refers = rw e at (g .refers);
-  }
-  going-empty (word a w b) e k = absurd (omega arith)
-
-  pub going-full : (l : Line) → linesFrom t at ≡ l ∷ linesFrom t next → (row l .kind ≡ 0 → ⊥) → (row l .kind ≡ 1 → ⊥) → n ≡ 256 → 13 ≡ faulty 0 (linesFrom t 0)
-  unfolding faulty
-  going-full bad e k m f = absurd (k refl)
-  going-full empty e k m f = absurd (m refl)
-  going-full (word a w b) e k m f = sym (ap (faulty n) e ∙ rw (le-ltb n 256 (omega arith))) ∙ g .faults
-
-  pub going-word : (l : Line) → linesFrom t at ≡ l ∷ linesFrom t next → (row l .kind ≡ 0 → ⊥) → (row l .kind ≡ 1 → ⊥) → n < 256 → length ws ≡ 256 → length ks ≡ 256 → length rs ≡ 256
-      → Going t next (n + 1) (set ws n (row l .word)) (set ks n (row l .label)) (set rs n (row l .refers))
-  unfolding faulty
-  going-word bad e k m f x y z = absurd (k refl)
-  going-word empty e k m f x y z = absurd (m refl)
-  going-word (word a w b) e k m f x y z = record {
-    faults = rw add-one (sym (ap (faulty n) e ∙ rw (lt-ltb n 256 f)) ∙ g .faults);
-    words = stored ws (wordsOf (linesFrom t next)) (wordsOf (linesFrom t 0)) n w (omega arith) (rw e at (g .words));
-    labels = stored ks (map key (labelsOf (linesFrom t next))) (map key (labelsOf (linesFrom t 0))) n (key a) (omega arith) (rw e at (g .labels));
-    refers = stored rs (map key (refersOf (linesFrom t next))) (map key (refersOf (linesFrom t 0))) n (key b) (omega arith) (rw e at (g .refers));
-  }
-
-  none-left : length t ≤ at → linesFrom t at ≡ []
-  unfolding lines
-  none-left h = rw (drop-of-length-le t {i = at} h)
-
-  pub going-clean : length t ≤ at → 0 ≡ faulty 0 (linesFrom t 0)
-  unfolding faulty
-  going-clean h = sym (ap (faulty n) (none-left h)) ∙ g .faults
-
-  pub going-held : length t ≤ at → n ≤ 256 → (length ws ≡ 256) × (length ks ≡ 256) × (length rs ≡ 256) → Held (linesFrom t 0) n ws ks rs
-  going-held h f m =
-      let e = none-left h in
-      record {
-        few = f;
-        room = m;
-        words = sym (append-nil (take n ws)) ∙ (rw e at (g .words));
-        labels = sym (append-nil (take n ks)) ∙ (rw e at (g .labels));
-        refers = sym (append-nil (take n rs)) ∙ (rw e at (g .refers));
-      }
+  -- nothing is left
+  pub going-end : length t ≤ at → (0 ≡ faulty 0 (linesFrom t 0)) × Held (linesFrom t 0) n ws ks rs
+  unfolding faulty lines
+  going-end h =
+      let e : linesFrom t at ≡ [] = rw (drop-of-length-le t {i = at} h) in
+      let m : take n ws ≡ wordsOf (linesFrom t 0) = rw (e, append-nil) at (g .words) in
+      let j : take n ks ≡ map key (labelsOf (linesFrom t 0)) = rw (e, append-nil) at (g .labels) in
+      let k : take n rs ≡ map key (refersOf (linesFrom t 0)) = rw (e, append-nil) at (g .refers) in
+      (sym (ap (faulty n) e) ∙ g .faults, record { few = g .few; room = g .room; words = m; labels = j; refers = k })

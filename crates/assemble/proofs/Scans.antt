@@ -6,10 +6,11 @@ use mathlib.Core.Path.{_≡_, refl, sym, ap, _∙_}
 use mathlib.Core.Bool.{Bool, true, false, cond, not, _&&_}
 use mathlib.Core.List.{List, [], _∷_, _++_, append-nil}
 use borrow.Author.Tests.{ltb-true, ltb-false, lt-ltb, le-ltb, eqb-true, eq-eqb, not-true}
+use borrow.Table.Steps.{cases}
 use lib.Dec.{eqb, ltb, lit≤}
 use lib.ListN.{length, getD, drop}
 use Rattle.isa.specs.Format.{hexDigit}
-use Rattle.isa.proofs.Truths.{both, tested}
+use Rattle.isa.proofs.Truths.{both, below, tested}
 use Rattle.assemble.specs.Grammar.{all, front, behind, isSpace, spaces, isNameByte, isLabel, digitIn, Token, letter, blank, digit, name}
 use Rattle.assemble.specs.Grammar.{made, counted, referred, Digits, Fits, Found, none, found, atEnd, scan}
 
@@ -20,35 +21,23 @@ false-true e = let z : _≡_ {A = ℕ} 0 1 = cc in absurd (omega arith)
 
 pub front-behind : (f : ℕ → Bool) (s : List ℕ) → front f s ++ behind f s ≡ s
 front-behind f [] = refl
-front-behind f (b ∷ s) = go (f b) (front-behind f s)
-  where
-    go : (v : Bool) → front f s ++ behind f s ≡ s → cond v (b ∷ front f s) [] ++ cond v (behind f s) (b ∷ s) ≡ b ∷ s
-    go true k = ap (λ (r : List ℕ). b ∷ r) k
-    go false k = refl
+front-behind f (b ∷ s) = cases (f b) (λ e. rw e (ap (λ (r : List ℕ). b ∷ r) (front-behind f s))) (λ e. rw e)
 
--- bytes that pass, and one that does not
-pub stopped : (f : ℕ → Bool) (x : List ℕ) (b : ℕ) (y : List ℕ) → all f x ≡ true → f b ≡ false → (front f (x ++ (b ∷ y)) ≡ x) × (behind f (x ++ (b ∷ y)) ≡ b ∷ y)
-stopped f [] b y e g = (rw g, rw g)
-stopped f (c ∷ x) b y e g =
-    let p = both (f c) (all f x) e in
-    let r = stopped f x b y (p .1) g in
-    (rw (p .0) (ap (λ (z : List ℕ). c ∷ z) (r .0)), rw (p .0) (r .1))
+-- bytes that pass, in front of a text
+pub past : (f : ℕ → Bool) (x y : List ℕ) → all f x ≡ true → (front f (x ++ y) ≡ x ++ front f y) × (behind f (x ++ y) ≡ behind f y)
+past f [] y e = (refl, refl)
+past f (b ∷ x) y e =
+    let p = both (f b) (all f x) e in
+    let r = past f x y (p .1) in
+    (rw (p .0) (ap (λ (z : List ℕ). b ∷ z) (r .0)), rw (p .0) (r .1))
 
 pub skip-spaces : (n : ℕ) (s : List ℕ) → behind isSpace (spaces n ++ s) ≡ behind isSpace s
 skip-spaces zero s = refl
 skip-spaces (suc n) s = skip-spaces n s
 
-pub only-spaces : (n : ℕ) → behind isSpace (spaces n) ≡ []
-only-spaces zero = refl
-only-spaces (suc n) = only-spaces n
-
 spaces-front : (s : List ℕ) → front isSpace s ≡ spaces (length (front isSpace s))
 spaces-front [] = refl
-spaces-front (b ∷ s) = go (isSpace b) refl (spaces-front s)
-  where
-    go : (v : Bool) → isSpace b ≡ v → front isSpace s ≡ spaces (length (front isSpace s)) → cond v (b ∷ front isSpace s) [] ≡ spaces (length (cond v (b ∷ front isSpace s) []))
-    go true e k = λ i. eqb-true b 32 e i ∷ k i
-    go false e k = refl
+spaces-front (b ∷ s) = cases (isSpace b) (λ e. rw e (λ i. eqb-true b 32 e i ∷ spaces-front s i)) (λ e. rw e)
 
 -- the spaces at the front and what is behind them
 pub spaced-front : (s : List ℕ) → s ≡ spaces (length (front isSpace s)) ++ behind isSpace s
@@ -62,38 +51,24 @@ digit-read d h = eqb-true (digitIn (hexDigit d)) d (tested (λ (k : ℕ). eqb (d
 pub digit-name : (d : ℕ) → d < 16 → isNameByte (hexDigit d) ≡ true
 digit-name d h = tested (λ (k : ℕ). isNameByte (hexDigit k)) 16 refl d h
 
-digit-no-space : (d : ℕ) → d < 16 → isSpace (hexDigit d) ≡ false
-digit-no-space d h = not-true (isSpace (hexDigit d)) (tested (λ (k : ℕ). not (isSpace (hexDigit k))) 16 refl d h)
-
-abbrev written-test : ℕ → Bool
-written-test b = cond (ltb (digitIn b) 16) (eqb (hexDigit (digitIn b)) b) true
-
-digit-small : (b : ℕ) → digitIn b < 16 → b < 71
-digit-small b h = go (ltb b 71) refl
-  where
-    go : (v : Bool) → ltb b 71 ≡ v → b < 71
-    go true e = ltb-true b 71 e
-    go false e =
-        let g : 71 ≤ b = ltb-false b 71 e in
-        let q : digitIn b ≡ 16 = simp (le-ltb b 48 (omega arith), le-ltb b 58 (omega arith), le-ltb b 65 (omega arith), le-ltb b 71 (omega arith)) in
-        absurd (omega arith)
-
+-- a digit's byte is below 71, and each of those that is a digit is its value's
 digit-written : (b : ℕ) → ltb (digitIn b) 16 ≡ true → hexDigit (digitIn b) ≡ b
-digit-written b e =
-    let t : written-test b ≡ true = tested written-test 71 refl b (digit-small b (ltb-true (digitIn b) 16 e)) in
-    eqb-true (hexDigit (digitIn b)) b (rw e at t)
+digit-written b e = eqb-true (hexDigit (digitIn b)) b (cases (ltb b 71) (λ l. rw e at (tested right 71 refl b (ltb-true b 71 l))) high)
+  where
+    right : ℕ → Bool
+    right k = cond (ltb (digitIn k) 16) (eqb (hexDigit (digitIn k)) k) true
 
-label-parts : (l : List ℕ) → isLabel l ≡ true → (getD l 0 0 ≡ 76) × (all isNameByte l ≡ true)
-label-parts l e =
-    let long = ltb (length l) 8 && all isNameByte l in
-    let p = both (eqb (getD l 0 0) 76) (ltb 1 (length l) && long) e in
-    (eqb-true (getD l 0 0) 76 (p .0), both (ltb (length l) 8) (all isNameByte l) (both (ltb 1 (length l)) long (p .1) .1) .1)
+    high : ltb b 71 ≡ false → eqb (hexDigit (digitIn b)) b ≡ true
+    high l =
+        let g : 71 ≤ b = ltb-false b 71 l in
+        let q : digitIn b ≡ 16 = simp (le-ltb b 48 (omega arith), le-ltb b 58 (omega arith), le-ltb b 65 (omega arith), le-ltb b 71 (omega arith)) in
+        absurd (omega (arith, ltb-true (digitIn b) 16 e))
 
 pub label-first : (l : List ℕ) → isLabel l ≡ true → getD l 0 0 ≡ 76
-label-first l e = label-parts l e .0
+label-first l e = eqb-true (getD l 0 0) 76 (both (eqb (getD l 0 0) 76) _ e .0)
 
 pub label-bytes : (l : List ℕ) → isLabel l ≡ true → all isNameByte l ≡ true
-label-bytes l e = label-parts l e .1
+label-bytes l e = both (ltb (length l) 8) _ (both (ltb 1 (length l)) _ (both (eqb (getD l 0 0) 76) _ e .1) .1) .1
 
 pub rest-digits : (ds : List ℕ) → Digits ds → Digits (drop 1 ds)
 rest-digits [] h i = h i
@@ -105,20 +80,20 @@ cons-digits d ds h k (suc i) = k i
 
 -- ---- what is wanted of a pattern
 
--- what stands behind a blank is no space, and behind a label no byte of a label
+-- it begins with a byte that passes
+abbrev pub begins : (ℕ → Bool) → List Token → Bool
+begins f [] = false
+begins f (letter c ∷ t) = f c
+begins f (blank ∷ t) = false
+begins f (digit k ∷ t) = below (λ (d : ℕ). f (hexDigit d)) 16
+begins f (name ∷ t) = false
+
+-- no space, and no byte of a label
 abbrev pub solid : List Token → Bool
-solid [] = false
-solid (letter c ∷ t) = not (isSpace c)
-solid (blank ∷ t) = false
-solid (digit k ∷ t) = true
-solid (name ∷ t) = false
+solid t = begins (λ (b : ℕ). not (isSpace b)) t
 
 abbrev closed : List Token → Bool
-closed [] = false
-closed (letter c ∷ t) = not (isNameByte c)
-closed (blank ∷ t) = false
-closed (digit k ∷ t) = false
-closed (name ∷ t) = false
+closed t = begins (λ (b : ℕ). not (isNameByte b)) t
 
 abbrev nameless : List Token → Bool
 nameless [] = true
@@ -127,7 +102,7 @@ nameless (blank ∷ t) = nameless t
 nameless (digit k ∷ t) = nameless t
 nameless (name ∷ t) = false
 
--- and there is at most one label
+-- what stands behind a blank is no space, and behind a label no byte of a label; and there is at most one label
 abbrev pub neat : List Token → Bool
 neat [] = true
 neat (letter c ∷ t) = neat t
@@ -137,128 +112,92 @@ neat (name ∷ t) = (closed t && nameless t) && neat t
 
 -- ---- what a pattern writes is read by it
 
-pub solid-made : (t : List Token) (ds l gs : List ℕ) → Digits ds → solid t ≡ true → behind isSpace (made t ds l gs) ≡ made t ds l gs
+-- it begins with no byte that passes
+pub stops-made : (f : ℕ → Bool) (t : List Token) (ds l gs : List ℕ) → Digits ds → begins (λ (b : ℕ). not (f b)) t ≡ true
+    → (front f (made t ds l gs) ≡ []) × (behind f (made t ds l gs) ≡ made t ds l gs)
 unfolding made
-solid-made [] ds l gs h e = false-true e
-solid-made (letter c ∷ t) ds l gs h e = rw (not-true (isSpace c) e)
-solid-made (blank ∷ t) ds l gs h e = false-true e
-solid-made (digit k ∷ t) ds l gs h e = rw (digit-no-space (getD ds 0 0) (h 0))
-solid-made (name ∷ t) ds l gs h e = false-true e
-
-closed-made : (t : List Token) (ds l gs : List ℕ) → isLabel l ≡ true → closed t ≡ true
-    → (front isNameByte (l ++ made t ds l gs) ≡ l) × (behind isNameByte (l ++ made t ds l gs) ≡ made t ds l gs)
-unfolding made
-closed-made [] ds l gs n e = false-true e
-closed-made (letter c ∷ t) ds l gs n e = stopped isNameByte l c (made t ds l gs) (label-bytes l n) (not-true (isNameByte c) e)
-closed-made (blank ∷ t) ds l gs n e = false-true e
-closed-made (digit k ∷ t) ds l gs n e = false-true e
-closed-made (name ∷ t) ds l gs n e = false-true e
+stops-made f [] ds l gs h e = false-true e
+stops-made f (letter c ∷ t) ds l gs h e = let q = not-true (f c) e in (rw q, rw q)
+stops-made f (blank ∷ t) ds l gs h e = false-true e
+stops-made f (digit k ∷ t) ds l gs h e =
+    let d = getD ds 0 0 in
+    let q = not-true (f (hexDigit d)) (tested (λ (d : ℕ). not (f (hexDigit d))) 16 e d (h 0)) in
+    (rw q, rw q)
+stops-made f (name ∷ t) ds l gs h e = false-true e
 
 pub scan-made : (t : List Token) (ds l gs : List ℕ) (w : ℕ) (r : List ℕ) → neat t ≡ true → Digits ds → isLabel l ≡ true
     → scan t w r (made t ds l gs) ≡ found (counted t ds w) (referred t l r)
 unfolding made counted referred scan
-scan-made [] ds l gs w r e h n = rw (only-spaces (getD gs 0 0))
+scan-made [] ds l gs w r e h n = rw (← append-nil (spaces (getD gs 0 0)), skip-spaces (getD gs 0 0) [])
 scan-made (letter c ∷ t) ds l gs w r e h n = rw (eq-eqb c c refl) (scan-made t ds l gs w r e h n)
 scan-made (blank ∷ t) ds l gs w r e h n =
     let p = both (solid t) (neat t) e in
-    rw (skip-spaces (getD gs 0 0) (made t ds l (drop 1 gs)), solid-made t ds l (drop 1 gs) h (p .0)) (scan-made t ds l (drop 1 gs) w r (p .1) h n)
+    rw (skip-spaces (getD gs 0 0) (made t ds l (drop 1 gs)), stops-made isSpace t ds l (drop 1 gs) h (p .0) .1) (scan-made t ds l (drop 1 gs) w r (p .1) h n)
 scan-made (digit k ∷ t) ds l gs w r e h n =
     rw (digit-read (getD ds 0 0) (h 0), lt-ltb (getD ds 0 0) 16 (h 0)) (scan-made t (drop 1 ds) l gs (w + k * getD ds 0 0) r e (rest-digits ds h) n)
 scan-made (name ∷ t) ds l gs w r e h n =
     let p = both (closed t && nameless t) (neat t) e in
-    let c = closed-made t ds l gs n (both (closed t) (nameless t) (p .0) .0) in
-    rw (c .0, c .1, n) (scan-made t ds l gs w l (p .1) h n)
+    let c = stops-made isNameByte t ds l gs h (both (closed t) (nameless t) (p .0) .0) in
+    let b = past isNameByte l (made t ds l gs) (label-bytes l n) in
+    rw (b .0, b .1, c .0, c .1, append-nil l, n) (scan-made t ds l gs w l (p .1) h n)
 
 -- ---- what is read by a pattern is written by it
 
--- without a label in the pattern it does not matter which is given
-made-nameless : (t : List Token) (ds l m gs r : List ℕ) → nameless t ≡ true → (made t ds l gs ≡ made t ds m gs) × (referred t l r ≡ referred t m r)
-unfolding made referred
-made-nameless [] ds l m gs r e = (refl, refl)
-made-nameless (letter c ∷ t) ds l m gs r e = let k = made-nameless t ds l m gs r e in (ap (λ (x : List ℕ). c ∷ x) (k .0), k .1)
-made-nameless (blank ∷ t) ds l m gs r e =
-    let k = made-nameless t ds l m (drop 1 gs) r e in
-    (ap (λ (x : List ℕ). spaces (suc (getD gs 0 0)) ++ x) (k .0), k .1)
-made-nameless (digit j ∷ t) ds l m gs r e = let k = made-nameless t (drop 1 ds) l m gs r e in (ap (λ (x : List ℕ). hexDigit (getD ds 0 0) ∷ x) (k .0), k .1)
-made-nameless (name ∷ t) ds l m gs r e = false-true e
+-- with the label l where the pattern has none
+abbrev Fitting : List Token → ℕ → List ℕ → List ℕ → ℕ → List ℕ → List ℕ → Type 0
+Fitting t w r s v q l = (m : Fits t w r s v q) × (nameless t ≡ true → m .label ≡ l)
 
 pub none-found : {A : Type 0} {v : ℕ} {q : List ℕ} → none ≡ found v q → A
 none-found e = let z : _≡_ {A = ℕ} 0 1 = cc in absurd (omega arith)
 
-ended : (w : ℕ) (r s b : List ℕ) (v : ℕ) (q : List ℕ) → behind isSpace s ≡ b → atEnd b (found w r) ≡ found v q → Fits [] w r s v q
+ended : (w : ℕ) (r s b : List ℕ) (v : ℕ) (q l : List ℕ) → behind isSpace s ≡ b → isLabel l ≡ true → atEnd b (found w r) ≡ found v q → Fitting [] w r s v q l
 unfolding made counted referred
-ended w r s [] v q e h = record {
-  digits = [];
-  label = 76 ∷ 48 ∷ [];
-  gaps = length (front isSpace s) ∷ [];
-  hexadecimal = λ i. lit≤ tt;
-  named = refl;
-  text = spaced-front s ∙ rw e (append-nil (spaces (length (front isSpace s))));
-  word = cc;
-  refers = cc;
-}
-ended w r s (x ∷ b) v q e h = none-found h
+ended w r s [] v q l e n h =
+    let k = length (front isSpace s) in
+    let t : s ≡ spaces k = spaced-front s ∙ rw e (append-nil (spaces k)) in
+    (record { digits = []; label = l; gaps = k ∷ []; hexadecimal = λ i. lit≤ tt; named = n; text = t; word = cc; refers = cc }, λ a. refl)
+ended w r s (x ∷ b) v q l e n h = none-found h
 
--- a token more in front, of a text that has its bytes more: from what is written of the rest
-module _ (t : List Token) (w : ℕ) (r s : List ℕ) (v : ℕ) (q : List ℕ) where
-  more : (k : Token) (u : ℕ) (o x ds l gs : List ℕ) (m : Fits t w r s v q) → Digits ds → isLabel l ≡ true → x ≡ made (k ∷ t) ds l gs
-      → counted t (m .digits) w ≡ counted (k ∷ t) ds u → referred t (m .label) r ≡ referred (k ∷ t) l o → Fits (k ∷ t) u o x v q
-  more k u o x ds l gs m h n e f g = record {
-    digits = ds;
-    label = l;
-    gaps = gs;
-    hexadecimal = h;
-    named = n;
-    text = e;
-    word = m .word ∙ f;
-    refers = m .refers ∙ g;
-  }
-
-  lettered : (b c : ℕ) → b ≡ c → Fits t w r s v q → Fits (letter c ∷ t) w r (b ∷ s) v q
-  unfolding made counted referred
-  lettered b c e m = more (letter c) w r (b ∷ s) (m .digits) (m .label) (m .gaps) m (m .hexadecimal) (m .named) (λ i. e i ∷ m .text i) refl refl
-
-  blanked : (b : ℕ) (x : List ℕ) → b ≡ 32 → s ≡ behind isSpace x → Fits t w r s v q → Fits (blank ∷ t) w r (b ∷ x) v q
-  unfolding made counted referred
-  blanked b x e y m =
-      let n = length (front isSpace x) in
-      let f : x ≡ spaces n ++ made t (m .digits) (m .label) (m .gaps) = spaced-front x ∙ ap (λ (z : List ℕ). spaces n ++ z) (sym y ∙ m .text) in
-      more blank w r (b ∷ x) (m .digits) (m .label) (n ∷ m .gaps) m (m .hexadecimal) (m .named) (λ i. e i ∷ f i) refl refl
-
-  digited : (b k u : ℕ) → ltb (digitIn b) 16 ≡ true → w ≡ u + k * digitIn b → Fits t w r s v q → Fits (digit k ∷ t) u r (b ∷ s) v q
-  unfolding made counted referred
-  digited b k u e y m =
-      let h = cons-digits (digitIn b) (m .digits) (ltb-true (digitIn b) 16 e) (m .hexadecimal) in
-      more (digit k) u r (b ∷ s) (digitIn b ∷ m .digits) (m .label) (m .gaps) m h (m .named) (λ i. sym (digit-written b e) i ∷ m .text i)
-      (ap (counted t (m .digits)) y) refl
-
-  labelled : (o x : List ℕ) → isLabel r ≡ true → x ≡ r ++ s → nameless t ≡ true → Fits t w r s v q → Fits (name ∷ t) w o x v q
-  unfolding made counted referred
-  labelled o x e y n m =
-      let k = made-nameless t (m .digits) (m .label) r (m .gaps) r n in
-      more name w o x (m .digits) r (m .gaps) m (m .hexadecimal) e (y ∙ ap (λ (z : List ℕ). r ++ z) (m .text ∙ k .0)) refl (k .1)
+-- a token more in front: from what is written of the rest
+more : {t : List Token} {k : Token} {w u : ℕ} {r o s x : List ℕ} {v : ℕ} {q l : List ℕ} (m : Fits t w r s v q) (ds gs : List ℕ)
+    → Digits ds → x ≡ made (k ∷ t) ds (m .label) gs → v ≡ counted (k ∷ t) ds u → q ≡ referred (k ∷ t) (m .label) o
+    → (nameless (k ∷ t) ≡ true → m .label ≡ l) → Fitting (k ∷ t) u o x v q l
+more m ds gs h e f g a = (record { digits = ds; label = m .label; gaps = gs; hexadecimal = h; named = m .named; text = e; word = f; refers = g }, a)
 
 -- where the test v of a byte holds, the rest is read on
 by-test : {A : Type 0} (v : Bool) {o : Found} {n : ℕ} {q : List ℕ} → (v ≡ true → o ≡ found n q → A) → cond v o none ≡ found n q → A
 by-test true f e = f refl e
 by-test false f e = none-found e
 
-pub scanned : (t : List Token) (w : ℕ) (r s : List ℕ) (v : ℕ) (q : List ℕ) → neat t ≡ true → scan t w r s ≡ found v q → Fits t w r s v q
-unfolding scan
-scanned [] w r s v q e h = ended w r s (behind isSpace s) v q refl h
-scanned (letter c ∷ t) w r [] v q e h = none-found h
-scanned (letter c ∷ t) w r (b ∷ s) v q e h = by-test (eqb b c) (λ y k. lettered t w r s v q b c (eqb-true b c y) (scanned t w r s v q e k)) h
-scanned (blank ∷ t) w r [] v q e h = none-found h
-scanned (blank ∷ t) w r (b ∷ s) v q e h =
-    let x = behind isSpace s in
-    by-test (isSpace b) (λ y k. blanked t w r x v q b s (eqb-true b 32 y) refl (scanned t w r x v q (both (solid t) (neat t) e .1) k)) h
-scanned (digit j ∷ t) w r [] v q e h = none-found h
-scanned (digit j ∷ t) w r (b ∷ s) v q e h =
-    let u = w + j * digitIn b in
-    by-test (ltb (digitIn b) 16) (λ y k. digited t u r s v q b j w y refl (scanned t u r s v q e k)) h
-scanned (name ∷ t) w r s v q e h =
-    let l = front isNameByte s in
-    let x = behind isNameByte s in
+pub scanned : (t : List Token) (w : ℕ) (r s : List ℕ) (v : ℕ) (q l : List ℕ) → neat t ≡ true → isLabel l ≡ true → scan t w r s ≡ found v q → Fitting t w r s v q l
+unfolding scan made counted referred
+scanned [] w r s v q l e n h = ended w r s (behind isSpace s) v q l refl n h
+scanned (letter c ∷ t) w r [] v q l e n h = none-found h
+scanned (letter c ∷ t) w r (b ∷ s) v q l e n h =
+    by-test (eqb b c) (λ y k.
+    let m = scanned t w r s v q l e n k in
+    let f = m .0 in
+    more f (f .digits) (f .gaps) (f .hexadecimal) (λ i. eqb-true b c y i ∷ f .text i) (f .word) (f .refers) (m .1)) h
+scanned (blank ∷ t) w r [] v q l e n h = none-found h
+scanned (blank ∷ t) w r (b ∷ s) v q l e n h =
+    by-test (isSpace b) (λ y k.
+    let m = scanned t w r (behind isSpace s) v q l (both (solid t) (neat t) e .1) n k in
+    let f = m .0 in
+    let j = length (front isSpace s) in
+    let x : s ≡ spaces j ++ made t (f .digits) (f .label) (f .gaps) = spaced-front s ∙ ap (λ (z : List ℕ). spaces j ++ z) (f .text) in
+    more f (f .digits) (j ∷ f .gaps) (f .hexadecimal) (λ i. eqb-true b 32 y i ∷ x i) (f .word) (f .refers) (m .1)) h
+scanned (digit j ∷ t) w r [] v q l e n h = none-found h
+scanned (digit j ∷ t) w r (b ∷ s) v q l e n h =
+    by-test (ltb (digitIn b) 16) (λ y k.
+    let m = scanned t (w + j * digitIn b) r s v q l e n k in
+    let f = m .0 in
+    let d = cons-digits (digitIn b) (f .digits) (ltb-true (digitIn b) 16 y) (f .hexadecimal) in
+    more f (digitIn b ∷ f .digits) (f .gaps) d (λ i. sym (digit-written b y) i ∷ f .text i) (f .word) (f .refers) (m .1)) h
+scanned (name ∷ t) w r s v q l e n h =
+    by-test (isLabel (front isNameByte s)) (λ y k.
     let p = both (closed t && nameless t) (neat t) e in
-    let n = both (closed t) (nameless t) (p .0) .1 in
-    by-test (isLabel l) (λ y k. labelled t w l x v q r s y (sym (front-behind isNameByte s)) n (scanned t w l x v q (p .1) k)) h
+    let m = scanned t w (front isNameByte s) (behind isNameByte s) v q (front isNameByte s) (p .1) y k in
+    let f = m .0 in
+    let z = sym (m .1 (both (closed t) (nameless t) (p .0) .1)) in
+    let x = sym (front-behind isNameByte s) ∙ (λ i. z i ++ f .text i) in
+    more f (f .digits) (f .gaps) (f .hexadecimal) x (f .word) (f .refers ∙ ap (referred t (f .label)) z) (λ a. false-true a)) h

@@ -6,26 +6,24 @@ use native.Mathlib.Omega.{arith}
 use native.Mathlib.Numerals.{add-one}
 use mathlib.Core.Path.{_≡_, refl, sym, ap, _∙_}
 use mathlib.Core.Bool.{Bool, true, false, cond}
-use mathlib.Core.List.{List, [], _∷_, _++_, map, append-assoc, append-nil}
-use borrow.Author.Tests.{eqb-true, eq-eqb, ne-eqb}
+use mathlib.Core.List.{List, [], _∷_, _++_, map, append-nil}
+use borrow.Author.Tests.{eqb-true, ne-eqb}
+use borrow.Table.Steps.{cases}
 use lib.Dec.{eqb, ltb}
-use lib.ListN.{length, getD, take, drop, set, replicate, length-drop, length-set, take-append-drop, drop-of-length-le}
-use lib.Seq.{drop-cons, take-suc, getD-drop, drop-length, drop-drop, take-suc-set, drop-set-lt}
-use Rattle.isa.specs.Text.{padded}
-use Rattle.encoding.specs.Bytes.{member}
-use Rattle.assemble.specs.Grammar.{all, front, behind, isSpace, isNameByte, isLabel, digitIn, Token, letter, blank, digit, name, token, Form, form, forms, formAt, Found, none, found, atEnd, scan, orElse, tried}
-use Rattle.assemble.specs.Assembly.{key, placed, doubled, missing, resolved, resolveAll}
+use lib.ListN.{length, getD, take, drop, length-drop, take-append-drop, drop-of-length-le}
+use lib.Seq.{drop-cons, take-suc, getD-drop, drop-drop}
+use Rattle.isa.specs.Format.{hexDigit}
+use Rattle.assemble.specs.Grammar.{all, front, behind, isSpace, isNameByte, isLabel, digitIn}
+use Rattle.assemble.specs.Grammar.{Token, letter, blank, digit, name, token, Form, form, forms, formAt, Found, none, found, atEnd, scan, orElse, tried}
+use Rattle.assemble.specs.Assembly.{key}
 use Rattle.assemble.specs.Reading.{passing, Passed, labelKey, unread, seen, ended, keyed, after, Next}
 use Rattle.assemble.specs.declared.forms.Seen.{Seen}
 use Rattle.assemble.specs.declared.forms.Spot.{Spot}
-use Rattle.isa.proofs.Truths.{below, tested}
-use Rattle.assemble.proofs.Scans.{false-true, label-first}
+use Rattle.isa.proofs.Truths.{tested}
+use Rattle.assemble.proofs.Scans.{false-true, front-behind, past, label-first, begins}
+use Rattle.assemble.proofs.Exact.{all-append}
 
 -- ---- a key
-
-pub key-end : (l : List ℕ) → key (drop (length l) l) ≡ 0
-unfolding key
-key-end l = rw (drop-length l)
 
 pub key-turn : (l : List ℕ) (i : ℕ) → 0 < i → i ≤ length l → key (drop (i - 1) l) ≡ getD l (i - 1) 0 + 256 * key (drop i l)
 unfolding key
@@ -42,10 +40,7 @@ power-six n h = pow-le-pow-right {n = 256} (omega arith) {i = n} {j = 6} h
 -- ---- bytes that are passed over
 
 abbrev pub Passing : (ℕ → Bool) → List ℕ → ℕ → ℕ → Type 0
-Passing f s at i = (at ≤ i) × (i ≤ length s) × (take (i - at) (drop at s) ++ front f (drop i s) ≡ front f (drop at s)) × (behind f (drop i s) ≡ behind f (drop at s))
-
-pub pass-first : (f : ℕ → Bool) (s : List ℕ) (at : ℕ) → at ≤ length s → Passing f s at at
-pass-first f s at h = let z : at - at ≡ 0 = omega arith in (omega arith, h, rw z, refl)
+Passing f s at i = (at ≤ i) × (i ≤ length s) × (all f (take (i - at) (drop at s)) ≡ true)
 
 taken-more : (s : List ℕ) (at i : ℕ) → at ≤ i → i < length s → take (i + 1 - at) (drop at s) ≡ take (i - at) (drop at s) ++ (getD s i 0 ∷ [])
 taken-more s at i h g =
@@ -55,55 +50,37 @@ taken-more s at i h g =
 
 pub pass-more : (f : ℕ → Bool) (s : List ℕ) (at i : ℕ) → i < length s → f (getD s i 0) ≡ true → Passing f s at i → Passing f s at (i + 1)
 pass-more f s at i g e p =
-    let d : drop i s ≡ getD s i 0 ∷ drop (i + 1) s = rw add-one (drop-cons s i 0 g) in
-    let a : front f (drop i s) ≡ getD s i 0 ∷ front f (drop (i + 1) s) = rw (d, e) in
-    let b : behind f (drop i s) ≡ behind f (drop (i + 1) s) = rw (d, e) in
-    (omega (arith, p .0), omega arith, rw (taken-more s at i (p .0) g, append-assoc, ← a) (p .2), sym b ∙ p .3)
+    let a = all-append f (take (i - at) (drop at s)) (getD s i 0 ∷ []) (p .2) (rw e) in
+    (omega (arith, p .0), omega arith, rw (taken-more s at i (p .0) g) a)
 
-pub pass-stop : (k : ℕ) (s : List ℕ) (at i : ℕ) → i < length s → passing k (getD s i 0) ≡ false → Passing (passing k) s at i → Passed k s at i
-pass-stop k s at i g e p =
-    let a : front (passing k) (drop i s) ≡ [] = rw (drop-cons s i 0 g, e) in
-    let b : behind (passing k) (drop i s) ≡ drop i s = rw (drop-cons s i 0 g, e) in
-    record { ahead = p .0; inside = p .1; passed = sym (append-nil (take (i - at) (drop at s))) ∙ ap (λ (x : List ℕ). take (i - at) (drop at s) ++ x) (sym a) ∙ p .2; left = sym b ∙ p .3 }
-
-pub pass-end : (k : ℕ) (s : List ℕ) (at i : ℕ) → length s ≤ i → Passing (passing k) s at i → Passed k s at i
-pass-end k s at i g p =
-    let z : drop i s ≡ [] = drop-of-length-le s {i = i} g in
-    record {
-      ahead = p .0;
-      inside = p .1;
-      passed = sym (append-nil (take (i - at) (drop at s))) ∙ ap (λ (x : List ℕ). take (i - at) (drop at s) ++ x) (sym (ap (front (passing k)) z)) ∙ p .2;
-      left = z ∙ sym (ap (behind (passing k)) z) ∙ p .3;
-    }
+-- where nothing more passes
+pub pass-done : (k : ℕ) (s : List ℕ) (at i : ℕ) → front (passing k) (drop i s) ≡ [] → Passing (passing k) s at i → Passed k s at i
+pass-done k s at i z p =
+    let f = passing k in
+    let x = take (i - at) (drop at s) in
+    let d : at + (i - at) ≡ i = omega (arith, p .0) in
+    let t : drop (i - at) (drop at s) ≡ drop i s = drop-drop (i - at) at s ∙ ap (λ (n : ℕ). drop n s) d in
+    let a : x ++ drop i s ≡ drop at s = rw (← t) (take-append-drop (i - at) (drop at s)) in
+    let r = past f x (drop i s) (p .2) in
+    let b : behind f (drop i s) ≡ drop i s = rw z at (front-behind f (drop i s)) in
+    record { ahead = p .0; inside = p .1; passed = sym (ap (front f) (sym a) ∙ r .0 ∙ rw z (append-nil x)); left = rw (← a, r .1) (sym b) }
 
 -- ---- labels
 
 pub front-all : (f : ℕ → Bool) (s : List ℕ) → all f (front f s) ≡ true
 front-all f [] = refl
-front-all f (b ∷ s) = go (f b) refl (front-all f s)
-  where
-    go : (v : Bool) → f b ≡ v → all f (front f s) ≡ true → all f (cond v (b ∷ front f s) []) ≡ true
-    go true e k = rw e k
-    go false e k = refl
+front-all f (b ∷ s) = cases (f b) (λ e. rw e (rw e (front-all f s))) (λ e. rw e)
 
-label-positive : (l : List ℕ) → isLabel l ≡ true → 0 < key l
+pub label-positive : (l : List ℕ) → isLabel l ≡ true → 0 < key l
 unfolding key
 label-positive [] e = false-true e
 label-positive (b ∷ l) e = let h : b ≡ 76 = label-first (b ∷ l) e in omega arith
 
 pub label-none : (l : List ℕ) → labelKey l ≡ 0 → isLabel l ≡ false
-label-none l = go (isLabel l) refl
-  where
-    go : (v : Bool) → isLabel l ≡ v → cond v (key l) 0 ≡ 0 → v ≡ false
-    go true e k = absurd (omega (arith, label-positive l e))
-    go false e k = refl
+label-none l k = cases (isLabel l) (λ e. absurd (omega (arith, label-positive l e, rw e at k))) (λ e. e)
 
 pub label-some : (l : List ℕ) → (labelKey l ≡ 0 → ⊥) → (isLabel l ≡ true) × (labelKey l ≡ key l)
-label-some l = go (isLabel l)
-  where
-    go : (v : Bool) → (cond v (key l) 0 ≡ 0 → ⊥) → (v ≡ true) × (cond v (key l) 0 ≡ key l)
-    go true k = (refl, refl)
-    go false k = absurd (k refl)
+label-some l k = cases (isLabel l) (λ e. (e, rw e)) (λ e. absurd (k (rw e)))
 
 -- ---- a form
 
@@ -111,15 +88,9 @@ module _ (p s : List ℕ) (i at w r : ℕ) where
   pub scan-turn : (n : Spot) → i < length p → Next (token (getD p i 0)) s at w r n → keyed (map token (drop i p)) w r (drop at s) ≡ after n (map token (drop (i + 1) p)) s
   scan-turn n h x = ap (λ (q : List ℕ). keyed (map token q) w r (drop at s)) (drop-cons p i 0 h) ∙ rw add-one (x .reads (map token (drop (suc i) p)))
 
-  scan-last : (e : ℕ) → length p ≤ i → Passed 0 s at e → keyed (map token (drop i p)) w r (drop at s) ≡ ended (drop e s) w r
+  pub scan-last : (e : ℕ) → length p ≤ i → Passed 0 s at e → keyed (map token (drop i p)) w r (drop at s) ≡ ended (drop e s) w r
   unfolding keyed
   scan-last e h x = rw (drop-of-length-le p {i = i} h, x .left)
-
-  pub scan-more : (e : ℕ) → length p ≤ i → Passed 0 s at e → e < length s → keyed (map token (drop i p)) w r (drop at s) ≡ unread
-  scan-more e h x g = scan-last e h x ∙ rw (drop-cons s e 0 g)
-
-  pub scan-whole : (e : ℕ) → length p ≤ i → Passed 0 s at e → length s ≤ e → keyed (map token (drop i p)) w r (drop at s) ≡ record { ok = true; word = w; refers = r }
-  scan-whole e h x g = scan-last e h x ∙ rw (drop-of-length-le s {i = e} g)
 
 seen-cond : {a : Seen} (o : Found) (v : Bool) → a ≡ seen o → cond v a unread ≡ seen (cond v o none)
 seen-cond o true e = e
@@ -139,68 +110,49 @@ keyed-scan (blank ∷ t) w r [] = refl
 keyed-scan (blank ∷ t) w r (b ∷ s) = seen-cond (scan t w r (behind isSpace s)) (isSpace b) (keyed-scan t w r (behind isSpace s))
 keyed-scan (digit m ∷ t) w r [] = refl
 keyed-scan (digit m ∷ t) w r (b ∷ s) = seen-cond (scan t (w + m * digitIn b) r s) (ltb (digitIn b) 16) (keyed-scan t (w + m * digitIn b) r s)
-keyed-scan (name ∷ t) w r s = seen-cond (scan t w (front isNameByte s) (behind isNameByte s)) (isLabel (front isNameByte s)) (keyed-scan t w (front isNameByte s) (behind isNameByte s))
+keyed-scan (name ∷ t) w r s =
+    let l = front isNameByte s in
+    seen-cond (scan t w l (behind isNameByte s)) (isLabel l) (keyed-scan t w l (behind isNameByte s))
 
 -- ---- the forms in turn
 
-picked : (o q : Found) → seen o .ok ≡ true → seen (orElse o q) ≡ seen o
-picked none q e = false-true e
-picked (found w r) q e = refl
+or-else : (o q : Found) → seen (orElse o q) ≡ cond (seen o .ok) (seen o) (seen q)
+or-else none q = refl
+or-else (found w r) q = refl
 
-passed-on : (o q : Found) → seen o .ok ≡ false → seen (orElse o q) ≡ seen q
-passed-on none q e = refl
-passed-on (found w r) q e = false-true (sym e)
-
-module _ (s : List ℕ) (f : ℕ) (n : Seen) (h : f < 17) (e : n ≡ keyed (formAt forms f .pattern) (formAt forms f .base) 0 s) where
-  by-scan : n ≡ seen (scan (formAt forms f .pattern) (formAt forms f .base) [] s)
-  unfolding key
-  by-scan = e ∙ keyed-scan (formAt forms f .pattern) (formAt forms f .base) [] s
-
-  tried-here : tried (drop f forms) s ≡ orElse (scan (formAt forms f .pattern) (formAt forms f .base) [] s) (tried (drop (f + 1) forms) s)
-  unfolding tried forms
-  tried-here = ap (λ (fs : List Form). tried fs s) (drop-cons forms f (form 0 "") h) ∙ rw add-one
-
-  pub tried-found : n .ok ≡ true → n ≡ seen (tried (drop f forms) s)
-  tried-found k = by-scan ∙ sym (ap seen tried-here ∙ picked (scan (formAt forms f .pattern) (formAt forms f .base) [] s) (tried (drop (f + 1) forms) s) (sym (ap (λ (x : Seen). x .ok) by-scan) ∙ k))
-
-  pub tried-on : n .ok ≡ false → seen (tried (drop f forms) s) ≡ seen (tried (drop (f + 1) forms) s)
-  tried-on k = ap seen tried-here ∙ passed-on (scan (formAt forms f .pattern) (formAt forms f .base) [] s) (tried (drop (f + 1) forms) s) (sym (ap (λ (x : Seen). x .ok) by-scan) ∙ k)
-
-pub tried-out : (s : List ℕ) (f : ℕ) → 17 ≤ f → seen (tried (drop f forms) s) ≡ unread
-unfolding tried forms
-tried-out s f h = rw (drop-of-length-le forms {i = f} h)
+-- what the forms from f on read, where n is what this one reads
+pub tried-turn : (s : List ℕ) (f : ℕ) (n : Seen) → f < 17 → n ≡ keyed (formAt forms f .pattern) (formAt forms f .base) 0 s
+    → seen (tried (drop f forms) s) ≡ cond (n .ok) n (seen (tried (drop (f + 1) forms) s))
+unfolding tried forms key
+tried-turn s f n h e =
+    let p = formAt forms f in
+    let o = tried (drop (suc f) forms) s in
+    ap (λ (fs : List Form). seen (tried fs s)) (drop-cons forms f (form 0 "") h)
+    ∙ or-else (scan (p .pattern) (p .base) [] s) o
+    ∙ rw add-one (ap (λ (x : Seen). cond (x .ok) x (seen o)) (sym (e ∙ keyed-scan (p .pattern) (p .base) [] s)))
 
 -- the first byte of each form
 abbrev pub heads : List ℕ
 heads = 76 ∷ 76 ∷ 76 ∷ 76 ∷ 83 ∷ 83 ∷ 82 ∷ 78 ∷ 83 ∷ 83 ∷ 82 ∷ 82 ∷ 82 ∷ 74 ∷ 74 ∷ 72 ∷ 46 ∷ []
 
-abbrev begins : List Token → ℕ → Bool
-begins [] c = false
-begins (letter d ∷ t) c = eqb d c
-begins (blank ∷ t) c = false
-begins (digit m ∷ t) c = false
-begins (name ∷ t) c = false
+headed : (f : ℕ) → f < 17 → begins (λ (b : ℕ). eqb b (getD heads f 0)) (formAt forms f .pattern) ≡ true
+unfolding forms
+headed f h = tested (λ (k : ℕ). begins (λ (b : ℕ). eqb b (getD heads k 0)) (formAt forms k .pattern)) 17 refl f h
 
-headed : ℕ → Bool
-headed f = begins (formAt forms f .pattern) (getD heads f 0)
-
-all-headed : below headed 17 ≡ true
-unfolding forms headed
-all-headed = refl
-
-head-other : (p : List Token) (c w k : ℕ) (s : List ℕ) → begins p c ≡ true → (c ≡ getD s 0 0 → ⊥) → keyed p w k s ≡ unread
+head-other : (p : List Token) (c w k : ℕ) (s : List ℕ) → begins (λ (b : ℕ). eqb b c) p ≡ true → (c ≡ getD s 0 0 → ⊥) → keyed p w k s ≡ unread
 unfolding keyed
 head-other [] c w k s e n = false-true e
 head-other (letter d ∷ t) c w k [] e n = refl
 head-other (letter d ∷ t) c w k (b ∷ s) e n = rw (ne-eqb b d (λ q. n (sym (eqb-true d c e) ∙ sym q)))
 head-other (blank ∷ t) c w k s e n = false-true e
-head-other (digit m ∷ t) c w k s e n = false-true e
+head-other (digit m ∷ t) c w k s e n =
+    let d = tested (λ (j : ℕ). eqb (hexDigit j) c) 16 e in
+    absurd (omega (arith, eqb-true 48 c (d 0 (omega arith)), eqb-true 49 c (d 1 (omega arith))))
 head-other (name ∷ t) c w k s e n = false-true e
 
 -- a form that begins with another byte
 pub tried-other : (s : List ℕ) (f : ℕ) → f < 17 → (getD heads f 0 ≡ getD s 0 0 → ⊥) → seen (tried (drop f forms) s) ≡ seen (tried (drop (f + 1) forms) s)
-unfolding headed
-tried-other s f h n = tried-on s f unread h (sym (head-other (formAt forms f .pattern) (getD heads f 0) (formAt forms f .base) 0 s (tested headed 17 all-headed f h) n)) refl
+tried-other s f h n = tried-turn s f unread h (sym (head-other (formAt forms f .pattern) (getD heads f 0) (formAt forms f .base) 0 s (headed f h) n))
 
 pub tried-empty : (s : List ℕ) → length s ≡ 0 → seen (tried forms s) ≡ unread
 unfolding tried forms scan

@@ -1,17 +1,9 @@
 -- Assumes nothing.
-use Prim.Native.Nat.{ℕ, suc, _≤_, _<_, zero-le}
-use native.Mathlib.Omega.{arith}
-use mathlib.Core.Path.{_≡_}
 use Rattle.assemble.specs.Grammar.{forms}
+use Rattle.isa.proofs.Truths.{last-arm}
 use borrow.Author.Needs.{needs}
 use Rattle.assemble.proofs.forms.by_form.Statement.{statement}
 use Rattle.assemble.proofs.forms.by_form.Tie as tie
-
-past : (f k : ℕ) → k ≤ f → (f ≡ k → ⊥) → suc k ≤ f
-past f k h n = omega arith
-
-last : (f : ℕ) → f < 17 → 16 ≤ f → f ≡ 16
-last f h g = omega arith
 
 slice-aggregate-scan : tie.Need-slice-aggregate-scan
 slice-aggregate-scan c = search needs
@@ -183,8 +175,7 @@ returns-17 : tie.Need-returns-17
 unfolding forms
 returns-17 c =
     let f = c .before .before .before .before .args .f in
-    let h = c .before .before .match .rest in
-    rw (last f (c .before .before .before .before .pre) (past f 15 (past f 14 (past f 13 (past f 12 (past f 11 (past f 10 (past f 9 (past f 8 (past f 7 (past f 6 (past f 5 (past f 4 (past f 3 (past f 2 (past f 1 (past f 0 zero-le (h .0 .0 .0 .0 .0 .0 .0 .0 .0 .0 .0 .0 .0 .0 .0 .1)) (h .0 .0 .0 .0 .0 .0 .0 .0 .0 .0 .0 .0 .0 .0 .1)) (h .0 .0 .0 .0 .0 .0 .0 .0 .0 .0 .0 .0 .0 .1)) (h .0 .0 .0 .0 .0 .0 .0 .0 .0 .0 .0 .0 .1)) (h .0 .0 .0 .0 .0 .0 .0 .0 .0 .0 .0 .1)) (h .0 .0 .0 .0 .0 .0 .0 .0 .0 .0 .1)) (h .0 .0 .0 .0 .0 .0 .0 .0 .0 .1)) (h .0 .0 .0 .0 .0 .0 .0 .0 .1)) (h .0 .0 .0 .0 .0 .0 .0 .1)) (h .0 .0 .0 .0 .0 .0 .1)) (h .0 .0 .0 .0 .0 .1)) (h .0 .0 .0 .0 .1)) (h .0 .0 .0 .1)) (h .0 .0 .1)) (h .0 .1)) (h .1))) (c .scan17 .ensures)
+    rw (last-arm 16 f (c .before .before .match .rest) (c .before .before .before .before .pre)) (c .scan17 .ensures)
 
 pub by-form-spec : {M : Type 1} → statement M
 by-form-spec =

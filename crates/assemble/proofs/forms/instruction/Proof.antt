@@ -4,10 +4,10 @@ use Prim.Native.Nat.{_-_, _≤_}
 use native.Mathlib.Omega.{arith}
 use mathlib.Core.Path.{_≡_, refl, sym, _∙_}
 use denote.Ref.{now}
-use lib.ListN.{drop}
+use lib.ListN.{drop, drop-of-length-le}
 use Rattle.assemble.specs.Grammar.{forms, tried}
 use Rattle.assemble.specs.Reading.{seen}
-use Rattle.assemble.proofs.Steps.{tried-found, tried-on, tried-other, tried-out, tried-empty}
+use Rattle.assemble.proofs.Steps.{tried-turn, tried-other, tried-empty}
 use borrow.Author.Needs.{needs}
 use Rattle.assemble.proofs.forms.instruction.Statement.{statement}
 use Rattle.assemble.proofs.forms.instruction.Tie as tie
@@ -40,7 +40,7 @@ returns-2 : tie.Need-returns-2 Inv-loop μ-loop
 returns-2 c =
     let l = c .before .before .before .before in
     let s = now (l .before .before .before .before .args .s) in
-    tried-found s (l .loop .f) (c .before .by-form .result) (omega arith) (c .before .by-form .ensures) (c .if3 .taken) ∙ l .loop .inv .1
+    sym (tried-turn s (l .loop .f) (c .before .by-form .result) (omega arith) (c .before .by-form .ensures) ∙ rw (c .if3 .taken)) ∙ l .loop .inv .1
 
 loop-less : tie.Need-loop-less Inv-loop μ-loop
 loop-less c = search needs
@@ -49,7 +49,7 @@ loop-again : tie.Need-loop-again Inv-loop μ-loop
 loop-again c =
     let l = c .before .before .before .before in
     let s = now (l .before .before .before .before .args .s) in
-    (omega arith, sym (tried-on s (l .loop .f) (c .before .by-form .result) (omega arith) (c .before .by-form .ensures) (c .if3 .left)) ∙ l .loop .inv .1)
+    (omega arith, sym (rw (c .if3 .left) at (tried-turn s (l .loop .f) (c .before .by-form .result) (omega arith) (c .before .by-form .ensures))) ∙ l .loop .inv .1)
 
 loop-less-2 : tie.Need-loop-less-2 Inv-loop μ-loop
 loop-less-2 c = search needs
@@ -61,10 +61,8 @@ loop-again-2 c =
     (omega arith, sym (tried-other s (l .loop .f) (omega arith) (c .if2 .left)) ∙ l .loop .inv .1)
 
 returns-3 : tie.Need-returns-3 Inv-loop μ-loop
-returns-3 c =
-    let l = c .before in
-    let s = now (l .before .before .before .before .args .s) in
-    sym (tried-out s (l .loop .f) (omega arith)) ∙ l .loop .inv .1
+unfolding tried forms
+returns-3 c = let l = c .before in rw (drop-of-length-le forms {i = l .loop .f} (omega arith)) at (l .loop .inv .1)
 
 pub instruction-spec : {M : Type 1} → statement M
 instruction-spec =

@@ -7,10 +7,11 @@ use mathlib.Core.List.{map}
 use mathlib.Core.Bool.{true, false}
 use borrow.Author.Tests.{not-true, not-false}
 use denote.Ref.{now}
-use lib.ListN.{length, drop}
+use lib.ListN.{length, drop, drop-of-length-le}
+use lib.Seq.{drop-cons}
 use Rattle.assemble.specs.Grammar.{token}
 use Rattle.assemble.specs.Reading.{keyed}
-use Rattle.assemble.proofs.Steps.{scan-turn, scan-more, scan-whole}
+use Rattle.assemble.proofs.Steps.{scan-turn, scan-last}
 use borrow.Author.Needs.{needs}
 use Rattle.assemble.proofs.forms.scan.Statement.{statement}
 use Rattle.assemble.proofs.forms.scan.Tie as tie
@@ -59,13 +60,15 @@ returns-2 : tie.Need-returns-2 Inv-loop μ-loop
 returns-2 c =
     let l = c .before .before .before in
     let a = l .before .before .before .args in
-    sym (scan-more (now (a .pattern)) (now (a .s)) (l .loop .i) (l .loop .at) (l .loop .w) (l .loop .r) (c .before .skip .result) (omega arith) (c .before .skip .ensures) (c .if2 .taken)) ∙ l .loop .inv .3
+    let e = sym (scan-last (now (a .pattern)) (now (a .s)) (l .loop .i) (l .loop .at) (l .loop .w) (l .loop .r) (c .before .skip .result) (omega arith) (c .before .skip .ensures)) ∙ l .loop .inv .3 in
+    rw (drop-cons (now (a .s)) (c .before .skip .result) 0 (c .if2 .taken)) at e
 
 returns-3 : tie.Need-returns-3 Inv-loop μ-loop
 returns-3 c =
     let l = c .before .before .before in
     let a = l .before .before .before .args in
-    sym (scan-whole (now (a .pattern)) (now (a .s)) (l .loop .i) (l .loop .at) (l .loop .w) (l .loop .r) (c .before .skip .result) (omega arith) (c .before .skip .ensures) (c .if2 .left)) ∙ l .loop .inv .3
+    let e = sym (scan-last (now (a .pattern)) (now (a .s)) (l .loop .i) (l .loop .at) (l .loop .w) (l .loop .r) (c .before .skip .result) (omega arith) (c .before .skip .ensures)) ∙ l .loop .inv .3 in
+    rw (drop-of-length-le (now (a .s)) {i = c .before .skip .result} (c .if2 .left)) at e
 
 pub scan-spec : {M : Type 1} → statement M
 scan-spec =

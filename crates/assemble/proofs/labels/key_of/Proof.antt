@@ -3,11 +3,12 @@
 use Prim.Native.Nat.{ℕ, _^_, _-_, _≤_, _<_}
 use native.Mathlib.Nat.{sub-self}
 use native.Mathlib.Omega.{arith}
-use mathlib.Core.Path.{_≡_, sym, ap, _∙_}
+use mathlib.Core.Path.{_≡_, ap, _∙_}
 use denote.Ref.{now}
 use lib.ListN.{length, drop}
+use lib.Seq.{drop-length}
 use Rattle.assemble.specs.Assembly.{key}
-use Rattle.assemble.proofs.Steps.{key-turn, key-end, power-turn, power-six}
+use Rattle.assemble.proofs.Steps.{key-turn, power-turn, power-six}
 use borrow.Author.Needs.{needs}
 use Rattle.assemble.proofs.labels.key_of.Statement.{statement}
 use Rattle.assemble.proofs.labels.key_of.Tie as tie
@@ -19,7 +20,8 @@ abbrev μ-loop : tie.MeasureT-loop
 μ-loop l k₀ i₀ k i = i
 
 loop-holds : tie.Need-loop-holds Inv-loop μ-loop
-loop-holds c = (search needs, sym (key-end (now (c .args .l))), rw sub-self (omega arith))
+unfolding key
+loop-holds c = (search needs, rw (drop-length (now (c .args .l))), rw sub-self (omega arith))
 
 sub-i : tie.Need-sub-i Inv-loop μ-loop
 sub-i c = search needs

@@ -1,10 +1,10 @@
 -- Assumes nothing.
 use native.Mathlib.Omega.{arith}
+use mathlib.Core.Bool.{and-false}
 use borrow.Author.Tests.{eq-eqb, ne-eqb, lt-ltb, le-ltb}
 use denote.Ref.{now}
 use lib.Dec.{eqb, ltb}
 use lib.ListN.{length, getD}
-use Rattle.assemble.proofs.Exact.{and-false}
 use borrow.Author.Needs.{needs}
 use Rattle.assemble.proofs.labels.label_key.Statement.{statement}
 use Rattle.assemble.proofs.labels.label_key.Tie as tie

@@ -8,7 +8,7 @@ use lib.Seq.{drop-drop}
 use Rattle.assemble.specs.Grammar.{front, isNameByte}
 use Rattle.assemble.specs.Assembly.{key}
 use Rattle.assemble.specs.Reading.{rowSeen, rowAfter}
-use Rattle.assemble.proofs.Rows.{tail-whole, body-none, body-plain, body-labelled}
+use Rattle.assemble.proofs.Rows.{tail-whole, body-none, body-some}
 use borrow.Author.Needs.{needs}
 use Rattle.assemble.proofs.lines.body_row.Statement.{statement}
 use Rattle.assemble.proofs.lines.body_row.Tie as tie
@@ -31,7 +31,8 @@ row-of-requires c κs = search needs
 returns-2 : tie.Need-returns-2
 returns-2 c =
     let i = c .before .before .before .before .before in
-    c .row-of .ensures ∙ ap (rowSeen 0) (c .before .instruction .ensures) ∙ sym (body-plain (now (i .before .before .args .s)) (i .if1 .left) (c .before .before .before .colon-label .ensures .misses (c .before .before .if2 .taken)))
+    let z = c .before .before .before .colon-label .ensures .misses (c .before .before .if2 .taken) in
+    c .row-of .ensures ∙ ap (rowSeen 0) (c .before .instruction .ensures) ∙ sym (rw z at (body-some (now (i .before .before .args .s)) (i .if1 .left)))
 
 add-a : tie.Need-add-a
 add-a c = omega (arith, c .before .colon-label .ensures .inside (c .if2 .left))
@@ -56,7 +57,7 @@ returns-3 c =
     let l = c .before .before .before .colon-label in
     let z = l .ensures .starts (c .before .before .if2 .left) in
     let k : l .result ≡ key (front isNameByte s) = rw z at (l .ensures .keyed) in
-    c .labelled-row .ensures ∙ ap (rowAfter (l .result)) (tail-whole s (e .result + 1) ∙ sym (drop-drop 1 (e .result) s) ∙ ap (drop 1) (e .ensures .left)) ∙ rw k (sym (body-labelled s (i .if1 .left) z))
+    c .labelled-row .ensures ∙ ap (rowAfter (l .result)) (tail-whole s (e .result + 1) ∙ sym (drop-drop 1 (e .result) s) ∙ ap (drop 1) (e .ensures .left)) ∙ rw k (sym (rw z at (body-some s (i .if1 .left))))
 
 pub body-row-spec : {M : Type 1} → statement M
 body-row-spec =

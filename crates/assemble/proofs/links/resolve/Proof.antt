@@ -5,7 +5,7 @@ use native.Mathlib.Omega.{arith}
 use mathlib.Core.Path.{refl, _∙_}
 use denote.Ref.{now}
 use lib.ListN.{length}
-use Rattle.assemble.proofs.Linking.{Resolving, plain-small, plain-more, place-small, place-more, place-lost, resolved-all}
+use Rattle.assemble.proofs.Linking.{Resolving, plain-turn, place-turn, resolved-all}
 use borrow.Author.Needs.{needs}
 use Rattle.assemble.proofs.links.resolve.Statement.{statement}
 use Rattle.assemble.proofs.links.resolve.Tie as tie
@@ -38,7 +38,7 @@ cast-out : tie.Need-cast-out Inv-loop μ-loop
 cast-out c =
     let l = c .before .before .before .before in
     let s = l .before .before .before .before in
-    record { fits = plain-small (now (s .args .words)) (now (s .args .keys)) (now (s .args .refers)) (l .loop .out) (l .loop .i) (s .pre) (l .loop .inv) (c .before .before .before .loop-test .taken) (c .before .if1 .taken) }
+    record { fits = plain-turn (now (s .args .words)) (now (s .args .keys)) (now (s .args .refers)) (l .loop .out) (l .loop .i) (s .pre) (l .loop .inv) (c .before .before .before .loop-test .taken) (c .before .if1 .taken) .0 }
 
 mul-out-2 : tie.Need-mul-out-2 Inv-loop μ-loop
 mul-out-2 c = search needs
@@ -53,7 +53,7 @@ loop-again : tie.Need-loop-again Inv-loop μ-loop
 loop-again c =
     let l = c .before .before .before .before in
     let s = l .before .before .before .before in
-    plain-more (now (s .args .words)) (now (s .args .keys)) (now (s .args .refers)) (l .loop .out) (l .loop .i) (s .pre) (l .loop .inv) (c .before .before .before .loop-test .taken) (c .before .if1 .taken)
+    plain-turn (now (s .args .words)) (now (s .args .keys)) (now (s .args .refers)) (l .loop .out) (l .loop .i) (s .pre) (l .loop .inv) (c .before .before .before .loop-test .taken) (c .before .if1 .taken) .1
 
 place-requires : tie.Need-place-requires Inv-loop μ-loop
 place-requires c κs = search needs
@@ -65,7 +65,7 @@ returns : tie.Need-returns Inv-loop μ-loop
 returns c =
     let l = c .before .before .before .before .before .before in
     let s = l .before .before .before .before in
-    c .refused .ensures ∙ place-lost (now (s .args .words)) (now (s .args .keys)) (now (s .args .refers)) (l .loop .out) (l .loop .i) (s .pre) (l .loop .inv) (c .before .before .place .result) (c .before .before .before .if1 .left) (c .before .before .place .ensures) (c .before .before .before .before .before .loop-test .taken) (c .before .if2 .taken)
+    c .refused .ensures ∙ place-turn (now (s .args .words)) (now (s .args .keys)) (now (s .args .refers)) (l .loop .out) (l .loop .i) (s .pre) (l .loop .inv) (c .before .before .place .result) (c .before .before .before .before .before .loop-test .taken) (c .before .before .before .if1 .left) (c .before .before .place .ensures) .2 (c .before .if2 .taken)
 
 mul-out-3 : tie.Need-mul-out-3 Inv-loop μ-loop
 mul-out-3 c = search needs
@@ -77,14 +77,14 @@ add-out : tie.Need-add-out Inv-loop μ-loop
 add-out c =
     let l = c .before .before .before .before .before .before in
     let s = l .before .before .before .before in
-    let m = place-small (now (s .args .words)) (now (s .args .keys)) (now (s .args .refers)) (l .loop .out) (l .loop .i) (s .pre) (l .loop .inv) (c .before .before .place .result) (c .before .before .before .if1 .left) (c .before .before .place .ensures) (c .before .before .before .before .before .loop-test .taken) in
+    let m = place-turn (now (s .args .words)) (now (s .args .keys)) (now (s .args .refers)) (l .loop .out) (l .loop .i) (s .pre) (l .loop .inv) (c .before .before .place .result) (c .before .before .before .before .before .loop-test .taken) (c .before .before .before .if1 .left) (c .before .before .place .ensures) .0 in
     record { fits = omega (arith, m) }
 
 cast-out-2 : tie.Need-cast-out-2 Inv-loop μ-loop
 cast-out-2 c =
     let l = c .before .before .before .before .before .before in
     let s = l .before .before .before .before in
-    record { fits = place-small (now (s .args .words)) (now (s .args .keys)) (now (s .args .refers)) (l .loop .out) (l .loop .i) (s .pre) (l .loop .inv) (c .before .before .place .result) (c .before .before .before .if1 .left) (c .before .before .place .ensures) (c .before .before .before .before .before .loop-test .taken) }
+    record { fits = place-turn (now (s .args .words)) (now (s .args .keys)) (now (s .args .refers)) (l .loop .out) (l .loop .i) (s .pre) (l .loop .inv) (c .before .before .place .result) (c .before .before .before .before .before .loop-test .taken) (c .before .before .before .if1 .left) (c .before .before .place .ensures) .0 }
 
 mul-out-4 : tie.Need-mul-out-4 Inv-loop μ-loop
 mul-out-4 c = search needs
@@ -99,7 +99,7 @@ loop-again-2 : tie.Need-loop-again-2 Inv-loop μ-loop
 loop-again-2 c =
     let l = c .before .before .before .before .before .before in
     let s = l .before .before .before .before in
-    place-more (now (s .args .words)) (now (s .args .keys)) (now (s .args .refers)) (l .loop .out) (l .loop .i) (s .pre) (l .loop .inv) (c .before .before .place .result) (c .before .before .before .if1 .left) (c .before .before .place .ensures) (c .before .before .before .before .before .loop-test .taken) (c .before .if2 .left)
+    place-turn (now (s .args .words)) (now (s .args .keys)) (now (s .args .refers)) (l .loop .out) (l .loop .i) (s .pre) (l .loop .inv) (c .before .before .place .result) (c .before .before .before .before .before .loop-test .taken) (c .before .before .before .if1 .left) (c .before .before .place .ensures) .1 (c .before .if2 .left)
 
 returns-2 : tie.Need-returns-2 Inv-loop μ-loop
 returns-2 c =

@@ -1,13 +1,14 @@
 -- The invariant: from i on a label stands twice where one does at all.
 -- Assumes nothing.
-use Prim.Native.Nat.{_-_, _≤_}
+use Prim.Native.Nat.{_+_, _-_, _≤_}
 use native.Mathlib.Omega.{arith}
+use mathlib.Core.Bool.{true, false}
 use mathlib.Core.Path.{_≡_, refl, sym, _∙_}
+use borrow.Author.Tests.{eq-eqb, ne-eqb, lt-ltb, le-ltb}
 use denote.Ref.{now}
-use lib.ListN.{length, drop}
-use Rattle.assemble.specs.Assembly.{doubled}
-use Rattle.assemble.proofs.Linking.{doubled-none, doubled-found, doubled-other}
-use lib.ListN.{drop-of-length-le}
+use lib.ListN.{length, getD, drop, drop-of-length-le}
+use Rattle.assemble.specs.Assembly.{placed, doubled}
+use Rattle.assemble.proofs.Linking.{doubled-turn}
 use borrow.Author.Needs.{needs}
 use Rattle.assemble.proofs.links.twice.Statement.{statement}
 use Rattle.assemble.proofs.links.twice.Tie as tie
@@ -37,7 +38,9 @@ returns : tie.Need-returns Inv-loop μ-loop
 returns c =
     let l = c .before .before .before .before .before in
     let ks = now (l .before .before .args .keys) in
-    sym (doubled-found ks (l .loop .i) (omega arith) (c .before .before .if1 .taken) (omega (arith, c .before .place .ensures .0, c .if2 .taken))) ∙ l .loop .inv .1
+    let i = l .loop .i in
+    let e = lt-ltb (placed (getD ks i 0) (drop (i + 1) ks)) (length ks - (i + 1)) (omega (arith, c .before .place .ensures .0, c .if2 .taken)) in
+    sym (doubled-turn ks i (omega arith) false true (ne-eqb _ 0 (c .before .before .if1 .taken)) e) ∙ l .loop .inv .1
 
 loop-less : tie.Need-loop-less Inv-loop μ-loop
 loop-less c = omega arith
@@ -46,7 +49,9 @@ loop-again : tie.Need-loop-again Inv-loop μ-loop
 loop-again c =
     let l = c .before .before .before .before .before in
     let ks = now (l .before .before .args .keys) in
-    (omega arith, sym (doubled-other ks (l .loop .i) (omega arith) (c .before .before .if1 .taken) (omega (arith, c .before .place .ensures .0, c .if2 .left))) ∙ l .loop .inv .1)
+    let i = l .loop .i in
+    let e = le-ltb (placed (getD ks i 0) (drop (i + 1) ks)) (length ks - (i + 1)) (omega (arith, c .before .place .ensures .0, c .if2 .left)) in
+    (omega arith, sym (doubled-turn ks i (omega arith) false false (ne-eqb _ 0 (c .before .before .if1 .taken)) e) ∙ l .loop .inv .1)
 
 loop-less-2 : tie.Need-loop-less-2 Inv-loop μ-loop
 loop-less-2 c = omega arith
@@ -55,7 +60,7 @@ loop-again-2 : tie.Need-loop-again-2 Inv-loop μ-loop
 loop-again-2 c =
     let l = c .before .before .before in
     let ks = now (l .before .before .args .keys) in
-    (omega arith, sym (doubled-none ks (l .loop .i) (omega arith) (c .if1 .left)) ∙ l .loop .inv .1)
+    (omega arith, sym (doubled-turn ks (l .loop .i) (omega arith) true _ (eq-eqb _ 0 (c .if1 .left)) refl) ∙ l .loop .inv .1)
 
 returns-2 : tie.Need-returns-2 Inv-loop μ-loop
 unfolding doubled

@@ -2,32 +2,31 @@
 -- Assumes nothing.
 use Prim.Native.Nat.{_-_, _≤_}
 use native.Mathlib.Omega.{arith}
-use mathlib.Core.Path.{_≡_, sym, ap, _∙_}
+use mathlib.Core.Path.{refl}
 use denote.Ref.{now}
-use lib.ListN.{length, take, drop, length-set}
-use Rattle.assemble.specs.Lines.{Line, readLine}
-use Rattle.assemble.specs.declared.lines.Row.{Row}
-use Rattle.assemble.proofs.Rows.{Going, lines-next, going-first, going-bad, going-empty, going-full, going-word, going-clean, going-held}
+use lib.ListN.{length}
+use Rattle.assemble.proofs.Rows.{Going, lines-next, Turn, going-turn, going-end}
 use borrow.Author.Needs.{needs}
 use Rattle.assemble.proofs.text.collect.Statement.{statement}
 use Rattle.assemble.proofs.text.collect.Tie as tie
 
 abbrev Inv-loop : tie.InvT-loop
-Inv-loop text words₀ labels₀ refers₀ at₀ n₀ words labels refers at n = (at ≤ length text) × (n ≤ 256) × (length words ≡ 256) × (length labels ≡ 256) × (length refers ≡ 256) × Going text at n words labels refers
+Inv-loop text words₀ labels₀ refers₀ at₀ n₀ words labels refers at n = (at ≤ length text) × Going text at n words labels refers
 
 abbrev μ-loop : tie.MeasureT-loop
 μ-loop text words₀ labels₀ refers₀ at₀ n₀ words labels refers at n = length text - at
 
--- the line that was read, and the lines as it and those behind it
-abbrev this : tie.After-line-row Inv-loop μ-loop → Line
-this r =
+-- what follows for the row that was read
+turn : (r : tie.After-line-row Inv-loop μ-loop)
+    → let l = r .before .before .before .before in Turn (now (l .before .before .args .text)) (l .loop .n) (l .loop .words) (l .loop .labels) (l .loop .refers) (r .before .before .line-at .result .next) (r .line-row .result)
+turn r =
     let l = r .before .before .before .before in
-    readLine (take (r .before .before .line-at .result .end - l .loop .at) (drop (l .loop .at) (now (l .before .before .args .text))))
+    let t = now (l .before .before .args .text) in
+    let b = r .before .before .line-at in
+    rw (r .line-row .ensures) (going-turn t (l .loop .at) (l .loop .n) (l .loop .words) (l .loop .labels) (l .loop .refers) (l .loop .inv .1) (b .result .next) _ (lines-next t (l .loop .at) (b .result) (omega arith) (b .ensures)))
 
 loop-holds : tie.Need-loop-holds Inv-loop μ-loop
-loop-holds c =
-    let s = c .before in
-    (search needs, search needs, s .pre .0, s .pre .1, s .pre .2, going-first (now (s .args .text)) (now (s .args .words)) (now (s .args .labels)) (now (s .args .refers)))
+loop-holds c = (search needs, record { few = omega arith; room = c .before .pre; faults = refl; words = refl; labels = refl; refers = refl })
 
 line-at-requires : tie.Need-line-at-requires Inv-loop μ-loop
 line-at-requires c κs = omega arith
@@ -45,38 +44,16 @@ line-row-requires : tie.Need-line-row-requires Inv-loop μ-loop
 line-row-requires c κs = search needs
 
 returns : tie.Need-returns Inv-loop μ-loop
-returns c =
-    let r = c .before in
-    let l = r .before .before .before .before in
-    let t = now (l .before .before .args .text) in
-    let b = r .before .before .line-at in
-    let k = r .line-row .ensures in
-    let e = lines-next t (l .loop .at) (b .result) (omega arith) (b .ensures) in
-    (going-bad t (l .loop .at) (l .loop .n) (l .loop .words) (l .loop .labels) (l .loop .refers) (b .result .next) (l .loop .inv .5) (this r) e (sym (ap (λ (x : Row). x .kind) k) ∙ c .if1 .taken), λ z. absurd (omega (arith, z)))
+returns c = (turn (c .before) .0 (c .if1 .taken), λ z. absurd (omega (arith, z)))
 
 loop-less : tie.Need-loop-less Inv-loop μ-loop
 loop-less c = let b = c .before .before .before .before .line-at in omega (arith, b .ensures .further, b .ensures .within)
 
 loop-again : tie.Need-loop-again Inv-loop μ-loop
-loop-again c =
-    let r = c .before .before in
-    let l = r .before .before .before .before in
-    let t = now (l .before .before .args .text) in
-    let b = r .before .before .line-at in
-    let k = r .line-row .ensures in
-    let e = lines-next t (l .loop .at) (b .result) (omega arith) (b .ensures) in
-    let v = l .loop .inv in
-    (b .ensures .within, v .1, v .2, v .3, v .4, going-empty t (l .loop .at) (l .loop .n) (l .loop .words) (l .loop .labels) (l .loop .refers) (b .result .next) (v .5) (this r) e (sym (ap (λ (x : Row). x .kind) k) ∙ c .if2 .taken))
+loop-again c = let r = c .before .before in (r .before .before .line-at .ensures .within, turn r .1 (c .if2 .taken))
 
 returns-2 : tie.Need-returns-2 Inv-loop μ-loop
-returns-2 c =
-    let r = c .before .before .before in
-    let l = r .before .before .before .before in
-    let t = now (l .before .before .args .text) in
-    let b = r .before .before .line-at in
-    let k = ap (λ (x : Row). x .kind) (r .line-row .ensures) in
-    let e = lines-next t (l .loop .at) (b .result) (omega arith) (b .ensures) in
-    (going-full t (l .loop .at) (l .loop .n) (l .loop .words) (l .loop .labels) (l .loop .refers) (b .result .next) (l .loop .inv .5) (this r) e (λ q. c .before .before .if1 .left (k ∙ q)) (λ q. c .before .if2 .left (k ∙ q)) (c .if3 .taken), λ z. absurd (omega (arith, z)))
+returns-2 c = (turn (c .before .before .before) .2 (c .before .before .if1 .left) (c .before .if2 .left) (c .if3 .taken), λ z. absurd (omega (arith, z)))
 
 mul-words : tie.Need-mul-words Inv-loop μ-loop
 mul-words c = search needs
@@ -105,22 +82,13 @@ loop-less-2 c = let b = c .before .before .before .before .before .line-at in om
 loop-again-2 : tie.Need-loop-again-2 Inv-loop μ-loop
 loop-again-2 c =
     let r = c .before .before .before in
-    let l = r .before .before .before .before in
-    let t = now (l .before .before .args .text) in
-    let b = r .before .before .line-at in
-    let k = r .line-row .ensures in
-    let m = ap (λ (x : Row). x .kind) k in
-    let e = lines-next t (l .loop .at) (b .result) (omega arith) (b .ensures) in
-    let v = l .loop .inv in
-    let z : l .loop .n ≡ 256 → ⊥ = c .if3 .left in
-    (b .ensures .within, omega arith, simp length-set (v .2), simp length-set (v .3), simp length-set (v .4), rw k (going-word t (l .loop .at) (l .loop .n) (l .loop .words) (l .loop .labels) (l .loop .refers) (b .result .next) (v .5) (this r) e (λ q. c .before .before .if1 .left (m ∙ q)) (λ q. c .before .if2 .left (m ∙ q)) (omega (arith, v .1)) (v .2) (v .3) (v .4)))
+    (r .before .before .line-at .ensures .within, turn r .3 (c .before .before .if1 .left) (c .before .if2 .left) (c .if3 .left))
 
 returns-3 : tie.Need-returns-3 Inv-loop μ-loop
 returns-3 c =
     let l = c .before in
-    let t = now (l .before .before .args .text) in
-    let v = l .loop .inv in
-    (going-clean t (l .loop .at) (l .loop .n) (l .loop .words) (l .loop .labels) (l .loop .refers) 0 (v .5) (c .loop-test .left), λ z. going-held t (l .loop .at) (l .loop .n) (l .loop .words) (l .loop .labels) (l .loop .refers) 0 (v .5) (c .loop-test .left) (v .1) (v .2, v .3, v .4))
+    let e = going-end (now (l .before .before .args .text)) (l .loop .at) (l .loop .n) (l .loop .words) (l .loop .labels) (l .loop .refers) (l .loop .inv .1) (c .loop-test .left) in
+    (e .0, λ z. e .1)
 
 pub collect-spec : {M : Type 1} → statement M
 collect-spec =
