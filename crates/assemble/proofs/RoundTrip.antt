@@ -1,19 +1,19 @@
 -- Assembling the listing of an image gives that image (02, Change 4).
 -- Assumes nothing.
-use Prim.Native.Nat.{ℕ, zero, suc, _+_, _*_, _-_, _/_, _%_, _≤_, _<_}
+use Prim.Native.Nat.{ℕ, zero, suc, _+_, _*_, _%_, _≤_, _<_}
 use Prim.Native.Char.{code}
 use native.Mathlib.Omega.{arith}
 use native.Mathlib.Nat.{add-zero, zero-add, add-suc, suc-add, mod-eq-of-lt, div-add-mod'}
 use mathlib.Core.Logic.{inl, inr}
 use mathlib.Core.Path.{_≡_, refl, sym, ap, _∙_}
 use mathlib.Core.Bool.{Bool, true, false, cond, not, _&&_}
-use mathlib.Core.List.{List, [], _∷_, _++_, map, append-assoc}
-use borrow.Author.Tests.{eqb-true, eq-eqb, ne-eqb, ltb-true, not-true}
+use mathlib.Core.List.{List, [], _∷_, _++_, append-assoc}
+use borrow.Author.Tests.{eq-eqb, ltb-true}
 use lib.Dec.{eqb, ltb}
-use lib.ListN.{length, getD, drop, drop-of-length-le}
+use lib.ListN.{length, getD, drop}
 use lib.Seq.{ext-getD}
 use Rattle.isa.specs.Text.{ascii, spaced}
-use Rattle.isa.specs.Word.{decodeWord, digitW, digitX, digitY, digitZ, byteYZ}
+use Rattle.isa.specs.Word.{decodeWord, digitY, digitZ, byteYZ}
 use Rattle.isa.specs.Format.{hexDigit, fill, decimal}
 use Rattle.isa.proofs.Truths.{both, tested}
 use Rattle.encoding.specs.Bytes.{eachFrom}
@@ -22,7 +22,7 @@ use Rattle.listing.specs.Listing.{wordsText, headStart, headEnd, headOf, listin
 use Rattle.assemble.specs.Grammar.{all, front, behind, spaces, digitIn, Form, forms, formAt, Instruction}
 use Rattle.assemble.specs.Lines.{Prefix, WordLine, Line, empty, word}
 use Rattle.assemble.specs.Assembly.{inFront, lines, ofWords, labelsOf, wordsOf, refersOf, FitLines, Stands, Once, Standing, Accepted, refusal, image, Image}
-use Rattle.assemble.proofs.Scans.{stopped, digit-read, digit-name, label-bytes}
+use Rattle.assemble.proofs.Scans.{stopped, digit-read, digit-name}
 use Rattle.assemble.proofs.Instructions.{eachForm, each-form}
 use Rattle.assemble.proofs.Exact.{all-append, without, no-name, no-made}
 use Rattle.assemble.proofs.Texts.{clash, accepted-served, accepted-image}
@@ -52,7 +52,8 @@ behind-all f (b ∷ x) y e = let p = both (f b) (all f x) e in rw (p .0) (behind
 
 -- ---- the head
 
-comment-line : (s r : List ℕ) (ls : List Line) → front noFeed s ≡ 59 ∷ drop 1 (front noFeed s) → behind noFeed s ≡ 10 ∷ r → FitLines (lines r) ls → FitLines (lines s) (empty ∷ ls)
+comment-line : (s r : List ℕ) (ls : List Line) → front noFeed s ≡ 59 ∷ drop 1 (front noFeed s) → behind noFeed s ≡ 10 ∷ r → FitLines (lines r) ls
+    → FitLines (lines s) (empty ∷ ls)
 comment-line s r ls p q f = rw (first-line s r q) (record { left = 0; comment = front noFeed s; commented = inr (drop 1 (front noFeed s), p); text = refl }, f)
 
 decimal-unfed : (n : ℕ) → n ≤ 256 → all noFeed (decimal 3 n) ≡ true
@@ -74,24 +75,20 @@ head-fits n y ls h f =
     let z = drop 1 (behind noFeed x) in
     let e : behind noFeed (headOf n ++ y) ≡ 10 ∷ x = simp append-assoc (behind-all noFeed (decimal 3 n) (wordsText n ++ x) (decimal-unfed n h) ∙ words-line n x) in
     let b : FitLines (lines (10 ∷ y)) (empty ∷ ls) = (record { left = 0; comment = []; commented = inl refl; text = refl }, f) in
-    comment-line (headOf n ++ y) x (empty ∷ empty ∷ empty ∷ ls) refl e (comment-line x z (empty ∷ empty ∷ ls) refl refl (comment-line z (10 ∷ y) (empty ∷ ls) refl refl b))
+    comment-line (headOf n ++ y) x (empty ∷ empty ∷ empty ∷ ls) refl e
+    (comment-line x z (empty ∷ empty ∷ ls) refl refl (comment-line z (10 ∷ y) (empty ∷ ls) refl refl b))
 
 -- ---- a line of a listing
 
+-- no byte of it is a line feed
 digit-unfed : (n : ℕ) → noFeed (hexDigit (n % 16)) ≡ true
 digit-unfed n = no-name (code "\n") refl refl (hexDigit (n % 16)) (digit-name (n % 16) (omega arith))
 
-abbrev unfedForm : Form → Bool
-unfedForm f = without (code "\n") refl refl (f .pattern)
-
-forms-unfed : eachForm unfedForm forms ≡ true
-unfolding forms
-forms-unfed = refl
-
 instruction-unfed : (s : List ℕ) (w : ℕ) (r : List ℕ) → Instruction s w r → all noFeed s ≡ true
+unfolding forms
 instruction-unfed s w r i =
     let f = i .fits in
-    let u = each-form unfedForm forms (i .which) forms-unfed (i .known) in
+    let u = each-form (λ (f : Form). without (code "\n") refl refl (f .pattern)) forms (i .which) refl (i .known) in
     rw (f .text) (no-made (code "\n") refl refl (formAt forms (i .which) .pattern) (f .digits) (f .label) (f .gaps) u (f .hexadecimal) (f .named))
 
 abbrev note : ℕ → ℕ → List ℕ
@@ -132,15 +129,12 @@ unfolding labelText fill
 label-unfed true a = simp digit-unfed
 label-unfed false a = refl
 
-note-unfed : (a w : ℕ) → all noFeed (note a w) ≡ true
-unfolding fill
-note-unfed a w = simp digit-unfed
-
 line-cut : (n : ℕ) (on : Bool) (a w : ℕ) (y : List ℕ) → w < 65536 → lines (line n on a w ++ y) ≡ bodyOf n on a w ∷ lines y
 unfolding line lineFront lineBack fill
 line-cut n on a w y h =
-    let u = all-append noFeed (spaced 26 (listingText n w)) (note a w) (instruction-unfed (spaced 26 (listingText n w)) _ _ (column-fits w h n)) (note-unfed a w) in
-    ap lines (simp append-assoc) ∙ cut-line (bodyOf n on a w) y (all-append noFeed (spaced 8 (labelText on a)) (spaced 26 (listingText n w) ++ note a w) (label-unfed on a) u)
+    let x = spaced 26 (listingText n w) in
+    let u = all-append noFeed x (note a w) (instruction-unfed x _ _ (column-fits w h n)) (simp digit-unfed) in
+    ap lines (simp append-assoc) ∙ cut-line (bodyOf n on a w) y (all-append noFeed (spaced 8 (labelText on a)) (x ++ note a w) (label-unfed on a) u)
 
 -- ---- labels tell addresses apart
 
@@ -265,7 +259,8 @@ module _ (ws : List ℕ) where
     unfolding eachFrom lines lineOf
     fits-from i zero = tt
     fits-from i (suc k) =
-        rw (line-cut (length ws) (labelled ws i) i (at i) (eachFrom (lineOf ws) (suc i) k) (fit i)) (line-fits (length ws) (labelled ws i) i (at i) (fit i), fits-from (suc i) k)
+        rw (line-cut (length ws) (labelled ws i) i (at i) (eachFrom (lineOf ws) (suc i) k) (fit i))
+        (line-fits (length ws) (labelled ws i) i (at i) (fit i), fits-from (suc i) k)
 
     -- the listing is accepted
     listing-accepted : Accepted (listingOf ws) listed

@@ -1,11 +1,11 @@
 -- A text is accepted exactly where its lines fit, its labels are as they must be and its words are few; and what is refused where a line is faulty.
 -- Assumes nothing.
 use Prim.Native.Nat.{ℕ, zero, suc, _+_, _≤_, _<_}
-use native.Mathlib.Nat.{add-zero, zero-add}
+use native.Mathlib.Nat.{add-zero, zero-add, add-suc, suc-add}
 use native.Mathlib.Omega.{arith}
 use mathlib.Core.Logic.{_↔_, _⊎_, inl, inr, ⊎-elim, ⊎-map}
 use mathlib.Core.Path.{_≡_, refl, sym, ap, _∙_}
-use mathlib.Core.Bool.{Bool, true, false, cond, not}
+use mathlib.Core.Bool.{Bool, true, false, cond}
 use mathlib.Core.List.{List, [], _∷_, _++_, map, map-append, append-nil}
 use borrow.Author.Tests.{eqb-true, eqb-false, eq-eqb, ne-eqb, ltb-true, ltb-false, lt-ltb, le-ltb}
 use lib.Dec.{eqb, ltb}
@@ -26,10 +26,17 @@ use Rattle.assemble.proofs.Linking.{length-resolved}
 pub clash : {A : Type 0} → _≡_ {A = ℕ} 0 1 → A
 clash e = absurd (omega arith)
 
--- the Bool says whether it holds
-abbrev Says : Bool → Type 0 → Type 0
-Says true A = A
-Says false A = A → ⊥
+-- what a Bool tells: A where it is true, B where it is false
+data By (A B : Type 0) : Bool → Type 0 where
+  yes : A → By A B true
+  no : B → By A B false
+
+-- that A holds, and that it does not
+abbrev Tells : Type 0 → Bool → Type 0
+Tells A v = By A (A → ⊥) v
+
+abbrev Denies : Type 0 → Bool → Type 0
+Denies A v = By (A → ⊥) A v
 
 -- ---- keys
 
@@ -63,12 +70,12 @@ key-same (b ∷ l) (c ∷ m) h k e =
     let z : l ≡ m = key-same l m (p .2) (q .2) (omega arith) in
     λ i. x i ∷ z i
 
-key-says : (l m : List ℕ) → Keyed l → Keyed m → Says (eqb (key l) (key m)) (l ≡ m)
-key-says l m h k = go (eqb (key l) (key m)) refl
+key-tells : (l m : List ℕ) → Keyed l → Keyed m → Tells (l ≡ m) (eqb (key l) (key m))
+key-tells l m h k = go (eqb (key l) (key m)) refl
   where
-    go : (v : Bool) → eqb (key l) (key m) ≡ v → Says v (l ≡ m)
-    go true q = key-same l m h k (eqb-true (key l) (key m) q)
-    go false q = λ e. eqb-false (key l) (key m) q (ap key e)
+    go : (v : Bool) → eqb (key l) (key m) ≡ v → Tells (l ≡ m) v
+    go true q = yes (key-same l m h k (eqb-true (key l) (key m) q))
+    go false q = no (λ e. eqb-false (key l) (key m) q (ap key e))
 
 -- the labels of lines that fit have keys
 abbrev AllKeyed : List (List ℕ) → Type 0
@@ -105,60 +112,60 @@ labels-keyed (s ∷ ss) (word l w r ∷ ls) f =
     let k = labels-keyed ss ls (f .1) in
     ((prefix-keyed (f .0 .start) l (f .0 .labelled), k .0), (refer-keyed (f .0 .body) w r (f .0 .instructs), k .1))
 
--- ---- what the keys say of the labels
+-- ---- what the keys tell of the labels
 
 -- a label stands at an address
-stands-says : (l : List ℕ) (ls : List (List ℕ)) → Keyed l → AllKeyed ls → Says (member (key l) (map key ls)) (Stands l ls)
+stands-tells : (l : List ℕ) (ls : List (List ℕ)) → Keyed l → AllKeyed ls → Tells (Stands l ls) (member (key l) (map key ls))
 unfolding member
-stands-says l [] h k = λ t. omega (arith, t .1)
-stands-says l (x ∷ ls) h k = go (eqb (key x) (key l)) (key-says x l (k .0) h) (member (key l) (map key ls)) (stands-says l ls h (k .1))
+stands-tells l [] h k = no (λ t. omega (arith, t .1))
+stands-tells l (x ∷ ls) h k = go (key-tells x l (k .0) h) (stands-tells l ls h (k .1))
   where
     parts : Stands l (x ∷ ls) → (x ≡ l) ⊎ Stands l ls
     parts (zero, i, e) = inl e
     parts (suc j, i, e) = inr (j, omega arith, e)
 
-    go : (v : Bool) → Says v (x ≡ l) → (m : Bool) → Says m (Stands l ls) → Says (cond v true m) (Stands l (x ∷ ls))
-    go true p m q = (0, omega arith, p)
-    go false p true q = (suc (q .0), omega (arith, q .1), q .2)
-    go false p false q = λ t. ⊎-elim p q (parts t)
+    go : {v m : Bool} → Tells (x ≡ l) v → Tells (Stands l ls) m → Tells (Stands l (x ∷ ls)) (cond v true m)
+    go (yes p) q = yes (0, omega arith, p)
+    go (no p) (yes q) = yes (suc (q .0), omega (arith, q .1), q .2)
+    go (no p) (no q) = no (λ t. ⊎-elim p q (parts t))
 
 -- no label stands on two lines
-once-says : (ls : List (List ℕ)) → AllKeyed ls → Says (not (doubled (map key ls))) (Once ls)
+once-denies : (ls : List (List ℕ)) → AllKeyed ls → Denies (Once ls) (doubled (map key ls))
 unfolding doubled key
-once-says [] k = tt
-once-says (l ∷ ls) k = go (eqb (key l) 0) (key-says l [] (k .0) refl) (member (key l) (map key ls)) (stands-says l ls (k .0) (k .1)) (doubled (map key ls)) (once-says ls (k .1))
+once-denies [] k = no tt
+once-denies (l ∷ ls) k = go (key-tells l [] (k .0) refl) (stands-tells l ls (k .0) (k .1)) (once-denies ls (k .1))
   where
-    go : (v : Bool) → Says v (l ≡ []) → (m : Bool) → Says m (Stands l ls) → (d : Bool) → Says (not d) (Once ls) → Says (not (cond v d (cond m true d))) (Once (l ∷ ls))
-    go true p m q true r = λ o. r (o .1)
-    go true p m q false r = (λ n. absurd (n p), r)
-    go false p true q d r = λ o. o .0 p q
-    go false p false q true r = λ o. r (o .1)
-    go false p false q false r = (λ n. q, r)
+    go : {v m d : Bool} → Tells (l ≡ []) v → Tells (Stands l ls) m → Denies (Once ls) d → Denies (Once (l ∷ ls)) (cond v d (cond m true d))
+    go (yes p) q (yes r) = yes (λ o. r (o .1))
+    go (yes p) q (no r) = no (λ n. absurd (n p), r)
+    go (no p) (yes q) r = yes (λ o. o .0 p q)
+    go (no p) (no q) (yes r) = yes (λ o. r (o .1))
+    go (no p) (no q) (no r) = no (λ n. q, r)
 
 -- every label used stands on a line
-standing-says : (ls rs : List (List ℕ)) → AllKeyed ls → AllKeyed rs → Says (not (missing (map key rs) (map key ls))) (Standing rs ls)
+standing-denies : (ls rs : List (List ℕ)) → AllKeyed ls → AllKeyed rs → Denies (Standing rs ls) (missing (map key rs) (map key ls))
 unfolding missing key
-standing-says ls [] k h = tt
-standing-says ls (r ∷ rs) k h =
-    go (eqb (key r) 0) (key-says r [] (h .0) refl) (member (key r) (map key ls)) (stands-says r ls (h .0) k) (missing (map key rs) (map key ls)) (standing-says ls rs k (h .1))
+standing-denies ls [] k h = no tt
+standing-denies ls (r ∷ rs) k h = go (key-tells r [] (h .0) refl) (stands-tells r ls (h .0) k) (standing-denies ls rs k (h .1))
   where
-    go : (v : Bool) → Says v (r ≡ []) → (m : Bool) → Says m (Stands r ls) → (d : Bool) → Says (not d) (Standing rs ls) → Says (not (cond v d (cond m d true))) (Standing (r ∷ rs) ls)
-    go true p m q true x = λ s. x (s .1)
-    go true p m q false x = (λ n. absurd (n p), x)
-    go false p true q true x = λ s. x (s .1)
-    go false p true q false x = (λ n. q, x)
-    go false p false q d x = λ s. q (s .0 p)
+    go : {v m d : Bool} → Tells (r ≡ []) v → Tells (Stands r ls) m → Denies (Standing rs ls) d → Denies (Standing (r ∷ rs) ls) (cond v d (cond m d true))
+    go (yes p) q (yes x) = yes (λ s. x (s .1))
+    go (yes p) q (no x) = no (λ n. absurd (n p), x)
+    go (no p) (yes q) (yes x) = yes (λ s. x (s .1))
+    go (no p) (yes q) (no x) = no (λ n. q, x)
+    go (no p) (no q) x = yes (λ s. q (s .0 p))
 
--- labels are as they must be, or refused 12
-labels-sorted : (ls rs : List (List ℕ)) → AllKeyed ls → AllKeyed rs
-    → ((labelRefusal (map key ls) (map key rs) ≡ 0) × (Once ls × Standing rs ls)) ⊎ ((labelRefusal (map key ls) (map key rs) ≡ 12) × (Once ls × Standing rs ls → ⊥))
-labels-sorted ls rs k h = go (doubled (map key ls)) (missing (map key rs) (map key ls)) (once-says ls k) (standing-says ls rs k h)
+-- labels are refused 12 where they are not as they must be
+abbrev Settled : Type 0 → ℕ → Type 0
+Settled A v = ((v ≡ 0) × A) ⊎ ((v ≡ 12) × (A → ⊥))
+
+labels-settled : (ls rs : List (List ℕ)) → AllKeyed ls → AllKeyed rs → Settled (Once ls × Standing rs ls) (labelRefusal (map key ls) (map key rs))
+labels-settled ls rs k h = go (once-denies ls k) (standing-denies ls rs k h)
   where
-    go : (a b : Bool) → Says (not a) (Once ls) → Says (not b) (Standing rs ls)
-        → ((_≡_ {A = ℕ} (cond a 12 (cond b 12 0)) 0) × (Once ls × Standing rs ls)) ⊎ ((_≡_ {A = ℕ} (cond a 12 (cond b 12 0)) 12) × (Once ls × Standing rs ls → ⊥))
-    go true b p q = inr (refl, λ o. p (o .0))
-    go false true p q = inr (refl, λ o. q (o .1))
-    go false false p q = inl (refl, (p, q))
+    go : {a b : Bool} → Denies (Once ls) a → Denies (Standing rs ls) b → Settled (Once ls × Standing rs ls) (cond a 12 (cond b 12 0))
+    go (yes p) q = inr (refl, λ o. p (o .0))
+    go (no p) (yes q) = inr (refl, λ o. q (o .1))
+    go (no p) (no q) = inl (refl, (p, q))
 
 -- ---- lines that are not faulty, and the first that is
 
@@ -197,7 +204,7 @@ unfolding faulty
 passed [] b n c = ap (λ (m : ℕ). faulty m b) (sym (add-zero n))
 passed (bad ∷ a) b n c = absurd c
 passed (empty ∷ a) b n c = passed a b n c
-passed (word l w r ∷ a) b n c = let e : suc n + length (wordsOf a) ≡ n + suc (length (wordsOf a)) = omega arith in rw (lt-ltb n 256 (c .0), ← e) (passed a b (suc n) (c .1))
+passed (word l w r ∷ a) b n c = rw (lt-ltb n 256 (c .0), add-suc, ← suc-add) (passed a b (suc n) (c .1))
 
 -- a line is faulty behind n words
 abbrev Fault : ℕ → Line → Type 0
@@ -245,7 +252,8 @@ module _ (t : List ℕ) where
   read = map readLine (lines t)
 
   -- where nothing is faulty before a line, it goes by that line
-  fault-at : (i : ℕ) (ls : List Line) → Until t i ls → (l : Line) → readLine (getD (lines t) i []) ≡ l → faulty 0 read ≡ faulty (length (wordsOf ls)) (l ∷ map readLine (drop (suc i) (lines t)))
+  fault-at : (i : ℕ) (ls : List Line) → Until t i ls → (l : Line) → readLine (getD (lines t) i []) ≡ l
+      → faulty 0 read ≡ faulty (length (wordsOf ls)) (l ∷ map readLine (drop (suc i) (lines t)))
   fault-at i ls u l e =
       let c = fits-exact (take i (lines t)) ls .0 (u .fit, u .few) in
       ap (λ (x : List (List ℕ)). faulty 0 (map readLine x)) (split-at (lines t) i [] (u .inside))
@@ -259,8 +267,8 @@ module _ (t : List ℕ) where
   unfolding refusal linesRefusal faulty
   overflows-thirteen b =
       let s = getD (lines t) (b .place) [] in
-      let l = word (b .label) (b .value) (b .refers) in
-      rw (fault-at (b .place) (b .ls) (b .until) l (word-line-exact s (b .label) (b .value) (b .refers) .1 (b .takes)), le-ltb (length (wordsOf (b .ls))) 256 (omega (arith, b .full)))
+      let e = word-line-exact s (b .label) (b .value) (b .refers) .1 (b .takes) in
+      rw (fault-at (b .place) (b .ls) (b .until) (word (b .label) (b .value) (b .refers)) e, le-ltb (length (wordsOf (b .ls))) 256 (omega (arith, b .full)))
 
   first-kind : First 0 read → Breaks t ⊎ Overflows t
   unfolding readLine readBody
@@ -284,13 +292,13 @@ module _ (t : List ℕ) where
 
   -- where they fit, it goes by the labels
   pub fits-refusal : (ls : List Line) → FitLines (lines t) ls → length (wordsOf ls) ≤ 256
-      → (read ≡ ls) × (((refusal t ≡ 0) × (Once (labelsOf ls) × Standing (refersOf ls) (labelsOf ls))) ⊎ ((refusal t ≡ 12) × (Once (labelsOf ls) × Standing (refersOf ls) (labelsOf ls) → ⊥)))
+      → (read ≡ ls) × Settled (Once (labelsOf ls) × Standing (refersOf ls) (labelsOf ls)) (refusal t)
   unfolding refusal linesRefusal faulty
   fits-refusal ls f h =
       let c = fits-exact (lines t) ls .0 (f, h) in
       let k = labels-keyed (lines t) ls f in
       let z : faulty 0 ls ≡ 0 = rw append-nil at (passed ls [] 0 (c .1)) in
-      (c .0, rw (c .0, z) (labels-sorted (labelsOf ls) (refersOf ls) (k .0) (k .1)))
+      (c .0, rw (c .0, z) (labels-settled (labelsOf ls) (refersOf ls) (k .0) (k .1)))
 
   pub mislabelled-twelve : Mislabelled t → refusal t ≡ 12
   mislabelled-twelve m = ⊎-elim (λ x. absurd (m .labels (x .1))) (λ x. x .0) (fits-refusal (m .ls) (m .fit) (m .few) .1)
@@ -344,7 +352,8 @@ pub even-refers : (ls : List Line) → length (map key (refersOf ls)) ≡ length
 even-refers ls = length-map (refersOf ls) key ∙ of-length (λ l w r. r) ls
 
 -- the first place of a label that stands on no two lines
-placed-at : (ls : List (List ℕ)) (r : List ℕ) (j : ℕ) → AllKeyed ls → Keyed r → Once ls → (r ≡ [] → ⊥) → j < length ls → getD ls j [] ≡ r → placed (key r) (map key ls) ≡ j
+placed-at : (ls : List (List ℕ)) (r : List ℕ) (j : ℕ) → AllKeyed ls → Keyed r → Once ls → (r ≡ [] → ⊥) → j < length ls → getD ls j [] ≡ r
+    → placed (key r) (map key ls) ≡ j
 unfolding placed
 placed-at [] r j k h o n l e = absurd (omega arith)
 placed-at (x ∷ ls) r zero k h o n l e = rw (eq-eqb (key x) (key r) (ap key e))
@@ -353,7 +362,8 @@ placed-at (x ∷ ls) r (suc j) k h o n l e =
     rw (ne-eqb (key x) (key r) other) (ap suc (placed-at ls r j (k .1) h (o .1) n (omega arith) e))
 
 -- the word at an address
-resolved-at : (ks : List ℕ) (ls : List Line) (i : ℕ) → getD (resolveAll ks (wordsOf ls) (map key (refersOf ls))) i 0 ≡ resolved ks (getD (wordsOf ls) i 0) (key (getD (refersOf ls) i []))
+resolved-at : (ks : List ℕ) (ls : List Line) (i : ℕ)
+    → getD (resolveAll ks (wordsOf ls) (map key (refersOf ls))) i 0 ≡ resolved ks (getD (wordsOf ls) i 0) (key (getD (refersOf ls) i []))
 unfolding resolveAll key
 resolved-at ks [] i = refl
 resolved-at ks (bad ∷ ls) i = resolved-at ks ls i
@@ -369,11 +379,13 @@ accepted-image t ls a = rw (accepted-served t ls a .1) (record { long = long; pl
     ks : List ℕ
     ks = map key (labelsOf ls)
 
-    long : length (resolveAll ks (wordsOf ls) (map key (refersOf ls))) ≡ length (wordsOf ls)
+    ws : List ℕ
+    ws = resolveAll ks (wordsOf ls) (map key (refersOf ls))
+
+    long : length ws ≡ length (wordsOf ls)
     long = length-resolved ks (wordsOf ls) (map key (refersOf ls)) (even-refers ls)
 
-    linked : (i j : ℕ) → (getD (refersOf ls) i [] ≡ [] → ⊥) → j < length (resolveAll ks (wordsOf ls) (map key (refersOf ls))) → getD (labelsOf ls) j [] ≡ getD (refersOf ls) i []
-        → getD (resolveAll ks (wordsOf ls) (map key (refersOf ls))) i 0 ≡ getD (wordsOf ls) i 0 + j
+    linked : (i j : ℕ) → (getD (refersOf ls) i [] ≡ [] → ⊥) → j < length ws → getD (labelsOf ls) j [] ≡ getD (refersOf ls) i [] → getD ws i 0 ≡ getD (wordsOf ls) i 0 + j
     linked i j n h e =
         let k = labels-keyed (lines t) ls (a .fit) in
         let r = getD (refersOf ls) i [] in
