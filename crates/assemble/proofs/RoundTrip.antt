@@ -23,7 +23,7 @@ use Rattle.assemble.specs.Grammar.{all, front, behind, spaces, digitIn, 
 use Rattle.assemble.specs.Lines.{Prefix, WordLine, Line, empty, word}
 use Rattle.assemble.specs.Assembly.{inFront, lines, ofWords, labelsOf, wordsOf, refersOf, FitLines, Stands, Once, Standing, Accepted, refusal, image, Image}
 use Rattle.assemble.proofs.Scans.{stopped, digit-read, digit-name}
-use Rattle.assemble.proofs.Instructions.{eachForm, each-form}
+use Rattle.assemble.proofs.Instructions.{each-form}
 use Rattle.assemble.proofs.Exact.{all-append, without, no-name, no-made}
 use Rattle.assemble.proofs.Texts.{clash, accepted-served, accepted-image}
 use Rattle.assemble.proofs.Listed.{labelOf, label-is, low-byte, wordPart, labelIf, column-fits}
