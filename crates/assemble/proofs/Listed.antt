@@ -131,7 +131,8 @@ module _ (w : ℕ) (h : w < 65536) where
   by-opcode b Halt e n = other-fits Halt e (λ u. fits-by 15 (22 ∷ []) (lit< tt) refl (omega (arith, by-digits w h)) refl)
 
   -- by what the word decodes to: a reference inside an image of n words is a label
-  pub column-fits : (n : ℕ) → Instruction (spaced 26 (listingText n w)) (wordPart (refers (decodeWord w) && ltb (byteYZ w) n) w) (labelIf (refers (decodeWord w) && ltb (byteYZ w) n) w)
+  pub column-fits : (n : ℕ)
+      → Instruction (spaced 26 (listingText n w)) (wordPart (refers (decodeWord w) && ltb (byteYZ w) n) w) (labelIf (refers (decodeWord w) && ltb (byteYZ w) n) w)
   unfolding listingText otherText
   column-fits n = go (decodeWord w) refl
     where

@@ -268,18 +268,14 @@ module _ (ws : List ℕ) where
     listing-accepted = record {
       fit = head-fits (length ws) (eachFrom (lineOf ws) 0 (length ws)) (linesFrom 0 (length ws)) few (fits-from 0 (length ws));
       few = rw (of-long (λ l w r. w) 0 (length ws)) few;
-      once = once-by (labelsOf listed) once;
-      standing = standing-by (refersOf listed) (labelsOf listed) standing;
+      once = once-by (labelsOf listed) (λ i j l h.
+          let g = rw (of-long (λ l w r. l) 0 (length ws)) at h in
+          rw (of-at (λ l w r. l) [] i (omega arith), of-at (λ l w r. l) [] j g)
+          (λ n e. let q = one-place i j (labelled ws i) (labelled ws j) (omega arith) (omega arith) n e in omega arith));
+      standing = standing-by (refersOf listed) (labelsOf listed) (λ i h.
+          let g = rw (of-long (λ l w r. r) 0 (length ws)) at h in
+          rw (of-at (λ l w r. r) [] i g) (standing-at i g (refer i) refl));
     }
-      where
-        once : (i j : ℕ) → i < j → j < length (labelsOf listed) → (getD (labelsOf listed) i [] ≡ [] → ⊥) → getD (labelsOf listed) j [] ≡ getD (labelsOf listed) i [] → ⊥
-        once i j l h =
-            let g = rw (of-long (λ l w r. l) 0 (length ws)) at h in
-            rw (of-at (λ l w r. l) [] i (omega arith), of-at (λ l w r. l) [] j g)
-            (λ n e. let q = one-place i j (labelled ws i) (labelled ws j) (omega arith) (omega arith) n e in omega arith)
-
-        standing : (i : ℕ) → i < length (refersOf listed) → (getD (refersOf listed) i [] ≡ [] → ⊥) → Stands (getD (refersOf listed) i []) (labelsOf listed)
-        standing i h = let g = rw (of-long (λ l w r. r) 0 (length ws)) at h in rw (of-at (λ l w r. r) [] i g) (standing-at i g (refer i) refl)
 
 -- assembling the listing of an image of at most 256 words gives that image
 pub round-trip : (ws : List ℕ) → length ws ≤ listingWords → ((a : ℕ) → getD ws a 0 < 65536) → (refusal (listingOf ws) ≡ 0) × (image (listingOf ws) ≡ ws)

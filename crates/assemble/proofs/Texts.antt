@@ -195,7 +195,7 @@ clear-fits (s ∷ ss) (word l w r ∷ ls) n h =
       λ c. let e = c .0 in let g = k (c .1 .0) .1 (cc, c .1 .1) in ((x .0 cc, g .0), omega (arith, g .1)),
     )
 
-pub fits-exact : (ss : List (List ℕ)) (ls : List Line) → (FitLines ss ls × (length (wordsOf ls) ≤ 256)) ↔ ((map readLine ss ≡ ls) × Clear 0 ls)
+fits-exact : (ss : List (List ℕ)) (ls : List Line) → (FitLines ss ls × (length (wordsOf ls) ≤ 256)) ↔ ((map readLine ss ≡ ls) × Clear 0 ls)
 fits-exact ss ls = rw zero-add at (clear-fits ss ls 0 (omega arith))
 
 -- they are passed
@@ -248,7 +248,7 @@ fit-none s empty e n = absurd (n empty (empty-line-exact s .0 e))
 fit-none s (word l w r) e n = absurd (n (word l w r) (word-line-exact s l w r .0 e))
 
 module _ (t : List ℕ) where
-  abbrev pub read : List Line
+  abbrev read : List Line
   read = map readLine (lines t)
 
   -- where nothing is faulty before a line, it goes by that line
@@ -270,6 +270,7 @@ module _ (t : List ℕ) where
       let e = word-line-exact s (b .label) (b .value) (b .refers) .1 (b .takes) in
       rw (fault-at (b .place) (b .ls) (b .until) (word (b .label) (b .value) (b .refers)) e, le-ltb (length (wordsOf (b .ls))) 256 (omega (arith, b .full)))
 
+  -- the first faulty line is of one of two kinds
   first-kind : First 0 read → Breaks t ⊎ Overflows t
   unfolding readLine readBody
   first-kind (i, h, c, x) = go (getD read i empty) (sym (List·getD-map readLine (lines t) i [])) x
@@ -286,12 +287,8 @@ module _ (t : List ℕ) where
           let f = word-line-exact (getD (lines t) i []) l w r .0 e in
           inr (record { place = i; ls = take i read; until = before; full = omega (arith, before .few); label = l; value = w; refers = r; takes = f })
 
-  -- the lines of a text fit, or there is a first faulty one, of one of two kinds
-  pub kinds : (FitLines (lines t) read × (length (wordsOf read) ≤ 256)) ⊎ (Breaks t ⊎ Overflows t)
-  kinds = ⊎-map (λ c. fits-exact (lines t) read .1 (refl, c)) first-kind (sorted read 0)
-
-  -- where they fit, it goes by the labels
-  pub fits-refusal : (ls : List Line) → FitLines (lines t) ls → length (wordsOf ls) ≤ 256
+  -- where all lines fit, it goes by the labels
+  fits-refusal : (ls : List Line) → FitLines (lines t) ls → length (wordsOf ls) ≤ 256
       → (read ≡ ls) × Settled (Once (labelsOf ls) × Standing (refersOf ls) (labelsOf ls)) (refusal t)
   unfolding refusal linesRefusal faulty
   fits-refusal ls f h =
@@ -304,18 +301,19 @@ module _ (t : List ℕ) where
   mislabelled-twelve m = ⊎-elim (λ x. absurd (m .labels (x .1))) (λ x. x .0) (fits-refusal (m .ls) (m .fit) (m .few) .1)
 
   -- why the number of its refusal is v
-  abbrev pub Why : ℕ → Type 0
+  abbrev Why : ℕ → Type 0
   Why v = cond (eqb v 0) (Accepted t read) (cond (eqb v 11) (Breaks t) (cond (eqb v 12) (Mislabelled t) (Overflows t)))
 
-  abbrev pub Case : ℕ → Type 0
+  abbrev Case : ℕ → Type 0
   Case v = (refusal t ≡ v) × Why v
 
   -- every text is accepted, or refused for one of three reasons
   pub cases : Case 0 ⊎ (Case 11 ⊎ (Case 12 ⊎ Case 13))
-  cases = ⊎-elim labels (⊎-elim (λ b. inr (inl (breaks-eleven b, b))) (λ b. inr (inr (inr (overflows-thirteen b, b))))) kinds
+  cases = ⊎-elim labels (λ f. ⊎-elim (λ b. inr (inl (breaks-eleven b, b))) (λ b. inr (inr (inr (overflows-thirteen b, b)))) (first-kind f)) (sorted read 0)
     where
-      labels : FitLines (lines t) read × (length (wordsOf read) ≤ 256) → Case 0 ⊎ (Case 11 ⊎ (Case 12 ⊎ Case 13))
-      labels f =
+      labels : Clear 0 read → Case 0 ⊎ (Case 11 ⊎ (Case 12 ⊎ Case 13))
+      labels c =
+          let f = fits-exact (lines t) read .1 (refl, c) in
           ⊎-elim (λ x. inl (x .0, record { fit = f .0; few = f .1; once = x .1 .0; standing = x .1 .1 }))
           (λ x. inr (inr (inl (x .0, record { ls = read; fit = f .0; few = f .1; labels = x .1 }))))
           (fits-refusal read (f .0) (f .1) .1)
