@@ -13,7 +13,7 @@ use lib.ListN.{length, getD, take, drop, length-map, List·getD-map}
 use lib.Seq.{split-at}
 use Rattle.encoding.specs.Bytes.{member}
 use Rattle.assemble.specs.Grammar.{all, isNameByte, Token, letter, blank, digit, name, forms, formAt, referred, Instruction}
-use Rattle.assemble.specs.Lines.{Line, bad, empty, word, Prefix, readBody, readLine}
+use Rattle.assemble.specs.Lines.{Line, bad, empty, word, readBody, readLine}
 use Rattle.assemble.specs.Assembly.{lines, ofWords, labelsOf, wordsOf, refersOf, FitLine, FitLines, Stands, Once, Standing, Accepted, faulty, key, doubled, missing}
 use Rattle.assemble.specs.Assembly.{labelRefusal, linesRefusal, refusal, placed, resolved, resolveAll, linesImage, image, Image}
 use Rattle.assemble.specs.Refusals.{Until, Breaks, Overflows, Mislabelled}
@@ -43,20 +43,17 @@ Denies A v = By (A → ⊥) A v
 abbrev Keyed : List ℕ → Type 0
 Keyed l = all isNameByte l ≡ true
 
-byte-small : (b : ℕ) → isNameByte b ≡ true → b < 256
-byte-small b e = go (ltb b 256) refl
-  where
-    go : (v : Bool) → ltb b 256 ≡ v → b < 256
-    go true q = ltb-true b 256 q
-    go false q =
-        let h : 256 ≤ b = ltb-false b 256 q in
-        let k : isNameByte b ≡ false = simp (le-ltb b 48 (omega arith), le-ltb b 58 (omega arith), le-ltb b 65 (omega arith), le-ltb b 91 (omega arith)) in
-        false-true (sym k ∙ e)
-
 -- a key's first byte is a digit to the base 256, and not 0
 keyed-parts : (b : ℕ) (l : List ℕ) → Keyed (b ∷ l) → (0 < b) × (b < 256) × Keyed l
 keyed-parts zero l h = false-true h
-keyed-parts (suc b) l h = let p = both (isNameByte (suc b)) (all isNameByte l) h in (omega arith, byte-small (suc b) (p .0), p .1)
+keyed-parts (suc b) l h = go (ltb (suc b) 256) refl (both (isNameByte (suc b)) (all isNameByte l) h)
+  where
+    go : (v : Bool) → ltb (suc b) 256 ≡ v → (isNameByte (suc b) ≡ true) × Keyed l → (0 < suc b) × (suc b < 256) × Keyed l
+    go true q p = (omega arith, ltb-true (suc b) 256 q, p .1)
+    go false q p =
+        let high : (n : ℕ) → n ≤ 256 → ltb (suc b) n ≡ false = λ n k. le-ltb (suc b) n (omega (arith, k, ltb-false (suc b) 256 q)) in
+        let e : isNameByte (suc b) ≡ false = simp (high 48 (omega arith), high 58 (omega arith), high 65 (omega arith), high 91 (omega arith)) in
+        false-true (sym e ∙ p .0)
 
 pub key-same : (l m : List ℕ) → Keyed l → Keyed m → key l ≡ key m → l ≡ m
 unfolding key
@@ -98,10 +95,6 @@ referred-keyed (name ∷ t) l r h k = referred-keyed t l l h h
 refer-keyed : (s : List ℕ) (w : ℕ) (r : List ℕ) → Instruction s w r → Keyed r
 refer-keyed s w r i = let f = i .fits in rw (f .refers) (referred-keyed (formAt forms (i .which) .pattern) (f .label) [] (label-bytes (f .label) (f .named)) refl)
 
-prefix-keyed : (p l : List ℕ) → Prefix p l → Keyed l
-prefix-keyed p l (inl q) = rw (q .1) refl
-prefix-keyed p l (inr q) = label-bytes l (q .1)
-
 labels-keyed : (ss : List (List ℕ)) (ls : List Line) → FitLines ss ls → AllKeyed (labelsOf ls) × AllKeyed (refersOf ls)
 labels-keyed [] [] f = (tt, tt)
 labels-keyed [] (l ∷ ls) f = absurd f
@@ -110,7 +103,8 @@ labels-keyed (s ∷ ss) (bad ∷ ls) f = absurd (f .0)
 labels-keyed (s ∷ ss) (empty ∷ ls) f = labels-keyed ss ls (f .1)
 labels-keyed (s ∷ ss) (word l w r ∷ ls) f =
     let k = labels-keyed ss ls (f .1) in
-    ((prefix-keyed (f .0 .start) l (f .0 .labelled), k .0), (refer-keyed (f .0 .body) w r (f .0 .instructs), k .1))
+    let q : Keyed l = ⊎-elim (λ q. rw (q .1) refl) (λ q. label-bytes l (q .1)) (f .0 .labelled) in
+    ((q, k .0), (refer-keyed (f .0 .body) w r (f .0 .instructs), k .1))
 
 -- ---- what the keys tell of the labels
 
@@ -224,9 +218,7 @@ sorted (word l w r ∷ ls) n = go (ltb n 256) refl (sorted ls (suc n))
   where
     go : (v : Bool) → ltb n 256 ≡ v → Clear (suc n) ls ⊎ First (suc n) ls → Clear n (word l w r ∷ ls) ⊎ First n (word l w r ∷ ls)
     go true q (inl c) = inl (ltb-true n 256 q, c)
-    go true q (inr f) =
-        let e : suc n + length (wordsOf (take (f .0) ls)) ≡ n + suc (length (wordsOf (take (f .0) ls))) = omega arith in
-        inr (suc (f .0), omega (arith, f .1), (ltb-true n 256 q, f .2), rw (← e) (f .3))
+    go true q (inr f) = inr (suc (f .0), omega (arith, f .1), (ltb-true n 256 q, f .2), rw (add-suc, ← suc-add) (f .3))
     go false q x = inr (0, omega arith, tt, omega (arith, ltb-false n 256 q))
 
 take-read : (i : ℕ) (ss : List (List ℕ)) → map readLine (take i ss) ≡ take i (map readLine ss)
