@@ -52,6 +52,7 @@ behind-all f (b ∷ x) y e = let p = both (f b) (all f x) e in rw (p .0) (behind
 
 -- ---- the head
 
+-- a comment takes no address
 comment-line : (s r : List ℕ) (ls : List Line) → front noFeed s ≡ 59 ∷ drop 1 (front noFeed s) → behind noFeed s ≡ 10 ∷ r → FitLines (lines r) ls
     → FitLines (lines s) (empty ∷ ls)
 comment-line s r ls p q f = rw (first-line s r q) (record { left = 0; comment = front noFeed s; commented = inr (drop 1 (front noFeed s), p); text = refl }, f)
@@ -198,35 +199,29 @@ module _ (ws : List ℕ) where
   abbrev refer : ℕ → Bool
   refer a = byLabel (length ws) (at a)
 
-  abbrev labelAt : ℕ → List ℕ
-  labelAt a = labelIf (labelled ws a) a
-
-  abbrev wordAt : ℕ → ℕ
-  wordAt a = wordPart (refer a) (at a)
-
-  abbrev referAt : ℕ → List ℕ
-  referAt a = labelIf (refer a) (at a)
+  -- what is wanted of the line at an address: of its label, its word, and the label that it refers to
+  abbrev part : {A : Type 0} → (List ℕ → ℕ → List ℕ → A) → ℕ → A
+  part f a = f (labelIf (labelled ws a) a) (wordPart (refer a) (at a)) (labelIf (refer a) (at a))
 
   abbrev linesFrom : ℕ → ℕ → List Line
   linesFrom i zero = []
-  linesFrom i (suc k) = word (labelAt i) (wordAt i) (referAt i) ∷ linesFrom (suc i) k
+  linesFrom i (suc k) = part word i ∷ linesFrom (suc i) k
 
   -- with its head
   abbrev listed : List Line
   listed = empty ∷ empty ∷ empty ∷ empty ∷ linesFrom 0 (length ws)
 
-  -- what is wanted of these lines, at an address
   module _ {A : Type 0} (f : List ℕ → ℕ → List ℕ → A) where
     of-long : (i k : ℕ) → length (ofWords f (linesFrom i k)) ≡ k
     of-long i zero = refl
     of-long i (suc k) = ap suc (of-long (suc i) k)
 
-    of-from : (d : A) (i k j : ℕ) → j < k → getD (ofWords f (linesFrom i k)) j d ≡ f (labelAt (i + j)) (wordAt (i + j)) (referAt (i + j))
+    of-from : (d : A) (i k j : ℕ) → j < k → getD (ofWords f (linesFrom i k)) j d ≡ part f (i + j)
     of-from d i zero j h = absurd (omega arith)
     of-from d i (suc k) zero h = rw add-zero
     of-from d i (suc k) (suc j) h = rw (add-suc, ← suc-add) (of-from d (suc i) k j (omega arith))
 
-    of-at : (d : A) (j : ℕ) → j < length ws → getD (ofWords f listed) j d ≡ f (labelAt j) (wordAt j) (referAt j)
+    of-at : (d : A) (j : ℕ) → j < length ws → getD (ofWords f listed) j d ≡ part f j
     of-at d j h = of-from d 0 (length ws) j h ∙ rw zero-add
 
   -- the label that a word refers to stands at its address

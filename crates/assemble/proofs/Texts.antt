@@ -40,7 +40,7 @@ Denies A v = By (A → ⊥) A v
 
 -- ---- keys
 
-abbrev Keyed : List ℕ → Type 0
+abbrev pub Keyed : List ℕ → Type 0
 Keyed l = all isNameByte l ≡ true
 
 -- a key's first byte is a digit to the base 256, and not 0
