@@ -6,8 +6,8 @@ use native.Mathlib.Omega.{arith}
 use native.Mathlib.Nat.{add-zero, zero-add, add-suc, suc-add, mod-eq-of-lt, div-add-mod'}
 use mathlib.Core.Logic.{inl, inr}
 use mathlib.Core.Path.{_≡_, refl, sym, ap, _∙_}
-use mathlib.Core.Bool.{Bool, true, false, cond, not, _&&_}
-use mathlib.Core.List.{List, [], _∷_, _++_, append-assoc}
+use mathlib.Core.Bool.{Bool, true, false, cond, _&&_}
+use mathlib.Core.List.{List, [], _∷_, _++_, append-assoc, append-nil}
 use borrow.Author.Tests.{eq-eqb, ltb-true}
 use lib.Dec.{eqb, ltb}
 use lib.ListN.{length, getD, drop}
@@ -21,51 +21,40 @@ use Rattle.listing.specs.Listing.{listingWords, refers, refersTo, referenced, l
 use Rattle.listing.specs.Listing.{wordsText, headStart, headEnd, headOf, listingOf}
 use Rattle.assemble.specs.Grammar.{all, front, behind, spaces, digitIn, Form, forms, formAt, Instruction}
 use Rattle.assemble.specs.Lines.{Prefix, WordLine, Line, empty, word}
-use Rattle.assemble.specs.Assembly.{inFront, lines, ofWords, labelsOf, wordsOf, refersOf, FitLines, Stands, Once, Standing, Accepted, refusal, image, Image}
-use Rattle.assemble.proofs.Scans.{stopped, digit-read, digit-name}
+use Rattle.assemble.specs.Assembly.{lines, ofWords, labelsOf, wordsOf, refersOf, FitLines, Stands, Once, Standing, Accepted, refusal, image, Image}
+use Rattle.assemble.specs.Reading.{inLine}
+use Rattle.assemble.proofs.Scans.{past, digit-read, digit-name}
 use Rattle.assemble.proofs.Instructions.{each-form}
 use Rattle.assemble.proofs.Exact.{all-append, without, no-name, no-made}
+use Rattle.assemble.proofs.Rows.{lines-first}
 use Rattle.assemble.proofs.Texts.{clash, accepted-served, accepted-image}
 use Rattle.assemble.proofs.Listed.{labelOf, label-is, low-byte, wordPart, labelIf, column-fits}
 
 -- ---- a line ends before its line feed
 
-abbrev noFeed : ℕ → Bool
-noFeed b = not (eqb b (code "\n"))
-
-first-line : (s r : List ℕ) → behind noFeed s ≡ 10 ∷ r → lines s ≡ front noFeed s ∷ lines r
-unfolding lines
+first-line : (s r : List ℕ) → behind inLine s ≡ 10 ∷ r → lines s ≡ front inLine s ∷ lines r
 first-line [] r e = clash cc
-first-line (b ∷ s) r e = go (eqb b 10) e (first-line s r)
-  where
-    go : (v : Bool) → cond (not v) (behind noFeed s) (b ∷ s) ≡ 10 ∷ r → (behind noFeed s ≡ 10 ∷ r → lines s ≡ front noFeed s ∷ lines r)
-        → cond v ([] ∷ lines s) (inFront b (lines s)) ≡ cond (not v) (b ∷ front noFeed s) [] ∷ lines r
-    go true p f = let q : s ≡ r = cc in rw q
-    go false p f = rw (f p)
+first-line (b ∷ s) r e = lines-first (b ∷ s) (omega arith) ∙ ap (λ (x : List ℕ). front inLine (b ∷ s) ∷ lines (drop 1 x)) e
 
-cut-line : (x y : List ℕ) → all noFeed x ≡ true → lines (x ++ (10 ∷ y)) ≡ x ∷ lines y
-cut-line x y e = let p = stopped noFeed x 10 y e refl in rw (first-line (x ++ (10 ∷ y)) y (p .1), p .0)
-
-behind-all : (f : ℕ → Bool) (x y : List ℕ) → all f x ≡ true → behind f (x ++ y) ≡ behind f y
-behind-all f [] y e = refl
-behind-all f (b ∷ x) y e = let p = both (f b) (all f x) e in rw (p .0) (behind-all f x y (p .1))
+cut-line : (x y : List ℕ) → all inLine x ≡ true → lines (x ++ (10 ∷ y)) ≡ x ∷ lines y
+cut-line x y e = let p = past inLine x (10 ∷ y) e in rw (first-line (x ++ (10 ∷ y)) y (p .1), p .0, append-nil x)
 
 -- ---- the head
 
 -- a comment takes no address
-comment-line : (s r : List ℕ) (ls : List Line) → front noFeed s ≡ 59 ∷ drop 1 (front noFeed s) → behind noFeed s ≡ 10 ∷ r → FitLines (lines r) ls
+comment-line : (s r : List ℕ) (ls : List Line) → front inLine s ≡ 59 ∷ drop 1 (front inLine s) → behind inLine s ≡ 10 ∷ r → FitLines (lines r) ls
     → FitLines (lines s) (empty ∷ ls)
-comment-line s r ls p q f = rw (first-line s r q) (record { left = 0; comment = front noFeed s; commented = inr (drop 1 (front noFeed s), p); text = refl }, f)
+comment-line s r ls p q f = rw (first-line s r q) (record { left = 0; comment = front inLine s; commented = inr (drop 1 (front inLine s), p); text = refl }, f)
 
-decimal-unfed : (n : ℕ) → n ≤ 256 → all noFeed (decimal 3 n) ≡ true
+decimal-unfed : (n : ℕ) → n ≤ 256 → all inLine (decimal 3 n) ≡ true
 unfolding decimal
-decimal-unfed n h = tested (λ (k : ℕ). all noFeed (decimal 3 k)) 257 refl n (omega arith)
+decimal-unfed n h = tested (λ (k : ℕ). all inLine (decimal 3 k)) 257 refl n (omega arith)
 
-words-line : (n : ℕ) (y : List ℕ) → behind noFeed (wordsText n ++ y) ≡ 10 ∷ y
+words-line : (n : ℕ) (y : List ℕ) → behind inLine (wordsText n ++ y) ≡ 10 ∷ y
 unfolding wordsText
 words-line n y = go (eqb n 1)
   where
-    go : (v : Bool) → behind noFeed (cond v (ascii " word of machine code.\n") (ascii " words of machine code.\n") ++ y) ≡ 10 ∷ y
+    go : (v : Bool) → behind inLine (cond v (ascii " word of machine code.\n") (ascii " words of machine code.\n") ++ y) ≡ 10 ∷ y
     go true = refl
     go false = refl
 
@@ -73,8 +62,8 @@ head-fits : (n : ℕ) (y : List ℕ) (ls : List Line) → n ≤ 256 → FitLines
 unfolding headOf headStart headEnd lines
 head-fits n y ls h f =
     let x = headEnd ++ y in
-    let z = drop 1 (behind noFeed x) in
-    let e : behind noFeed (headOf n ++ y) ≡ 10 ∷ x = simp append-assoc (behind-all noFeed (decimal 3 n) (wordsText n ++ x) (decimal-unfed n h) ∙ words-line n x) in
+    let z = drop 1 (behind inLine x) in
+    let e : behind inLine (headOf n ++ y) ≡ 10 ∷ x = simp append-assoc (past inLine (decimal 3 n) (wordsText n ++ x) (decimal-unfed n h) .1 ∙ words-line n x) in
     let b : FitLines (lines (10 ∷ y)) (empty ∷ ls) = (record { left = 0; comment = []; commented = inl refl; text = refl }, f) in
     comment-line (headOf n ++ y) x (empty ∷ empty ∷ empty ∷ ls) refl e
     (comment-line x z (empty ∷ empty ∷ ls) refl refl (comment-line z (10 ∷ y) (empty ∷ ls) refl refl b))
@@ -82,10 +71,10 @@ head-fits n y ls h f =
 -- ---- a line of a listing
 
 -- no byte of it is a line feed
-digit-unfed : (n : ℕ) → noFeed (hexDigit (n % 16)) ≡ true
+digit-unfed : (n : ℕ) → inLine (hexDigit (n % 16)) ≡ true
 digit-unfed n = no-name (code "\n") refl refl (hexDigit (n % 16)) (digit-name (n % 16) (omega arith))
 
-instruction-unfed : (s : List ℕ) (w : ℕ) (r : List ℕ) → Instruction s w r → all noFeed s ≡ true
+instruction-unfed : (s : List ℕ) (w : ℕ) (r : List ℕ) → Instruction s w r → all inLine s ≡ true
 unfolding forms
 instruction-unfed s w r i =
     let f = i .fits in
@@ -125,7 +114,7 @@ line-fits n on a w h =
       text = ap (λ (x : List ℕ). x ++ rest) (p .3) ∙ append-assoc (spaces (p .0)) (p .1) rest;
     }
 
-label-unfed : (on : Bool) (a : ℕ) → all noFeed (spaced 8 (labelText on a)) ≡ true
+label-unfed : (on : Bool) (a : ℕ) → all inLine (spaced 8 (labelText on a)) ≡ true
 unfolding labelText fill
 label-unfed true a = simp digit-unfed
 label-unfed false a = refl
@@ -134,8 +123,8 @@ line-cut : (n : ℕ) (on : Bool) (a w : ℕ) (y : List ℕ) → w < 65536 → li
 unfolding line lineFront lineBack fill
 line-cut n on a w y h =
     let x = spaced 26 (listingText n w) in
-    let u = all-append noFeed x (note a w) (instruction-unfed x _ _ (column-fits w h n)) (simp digit-unfed) in
-    ap lines (simp append-assoc) ∙ cut-line (bodyOf n on a w) y (all-append noFeed (spaced 8 (labelText on a)) (x ++ note a w) (label-unfed on a) u)
+    let u = all-append inLine x (note a w) (instruction-unfed x _ _ (column-fits w h n)) (simp digit-unfed) in
+    ap lines (simp append-assoc) ∙ cut-line (bodyOf n on a w) y (all-append inLine (spaced 8 (labelText on a)) (x ++ note a w) (label-unfed on a) u)
 
 -- ---- labels tell addresses apart
 
