@@ -37,7 +37,7 @@ fn is_name_byte(b: u8) -> bool
     if b < b'A' {
         return false;
     }
-    b < b'Z' + 1
+    b <= b'Z'
 }
 
 // What a use of `skip` passes over: spaces, the bytes of a name, all up to a comment, all of a line.

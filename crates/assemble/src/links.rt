@@ -53,8 +53,8 @@ pub(crate) fn refused(number: u8) -> Assembled
     }
 }
 
-// The words with the addresses of the labels that they refer to. One pass finds both the address and
-// that there is none: where each of 256 lines has a label, that search takes most of the time.
+// The words with the addresses of the labels that they refer to. One search finds a label's address and
+// that there is none.
 fn resolve(words: &[u64], keys: &[u64], refers: &[u64]) -> Assembled
     requires { ⌜ Linkable (now words) (now keys) (now refers) ⌝ }
     ensures { λ r. ⌜ r ≡ resolvedAs (now (words .entry)) (now (keys .entry)) (now (refers .entry)) ⌝ }
