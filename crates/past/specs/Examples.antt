@@ -3,20 +3,24 @@
 -- Assumes nothing.
 use Prim.Native.Nat.{ℕ}
 use mathlib.Core.List.{List, [], _∷_, _++_}
-use lib.ListN.{replicate}
+use lib.ListN.{length, replicate}
+use Rattle.history.specs.Record.{recordLength}
 use Rattle.vm.specs.declared.machine.Machine.{Machine as Code}
 use Rattle.vm.specs.Calls.{restarted, imageWords}
 use Rattle.vm.specs.History.{savedStore}
 use Rattle.past.specs.Past.{secondFetch, secondLoad, thirdStore, count, Call, tick, run, push, undo}
 use Rattle.past.specs.Played.{played, ticksOf}
 
--- 11*, just switched on, with an invented value in word 10
-unfoldable pub start : Code
-start = restarted (imageWords (0x3110 ∷ 0x4111 ∷ 0x1105 ∷ 0x4112 ∷ 0xE000 ∷ replicate 11 0 ++ (0x1234 ∷ []))) 17 0
+-- 11*, with an invented value in word 10, on a machine just switched on
+abbrev pub program : List ℕ
+program = 0x3110 ∷ 0x4111 ∷ 0x1105 ∷ 0x4112 ∷ 0xE000 ∷ replicate 11 0 ++ (0x1234 ∷ [])
 
--- a store for one record, and with what the push keeps
+unfoldable pub start : Code
+start = restarted (imageWords program) (length program) 0
+
+-- a store for one record, and the same with what the push keeps
 abbrev pub store : List ℕ
-store = replicate 576 0
+store = replicate recordLength 0
 
 abbrev pub kept : List ℕ
 kept = savedStore store start

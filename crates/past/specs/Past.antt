@@ -26,6 +26,7 @@ use Rattle.vm.specs.History.{saved, undone}
 
 -- ---- which ticks use the bus
 
+-- whether what a word says is that opcode
 abbrev pub isOpcode : Opcode → Decoded → Bool
 isOpcode o (Known p) = eqb (nibbleOf p) (nibbleOf o)
 isOpcode o Unknown = false
