@@ -10,4 +10,5 @@ pub mod program;
 pub mod runs;
 pub mod scripts;
 pub mod snapshots;
+pub mod totals;
 pub mod touched;

@@ -2,6 +2,7 @@
 
 use crate::calls::commands::{Command, Input};
 use crate::calls::model::Model;
+use crate::calls::totals::{Past, Totals};
 
 /// The longest script, and the longest store, that are taken.
 pub const LONGEST: usize = 262_144;
@@ -17,13 +18,48 @@ pub struct Part {
     pub at: usize,
     pub command: Option<Command>,
     pub answer: Vec<u8>,
+    /// The bus totals behind it; none where they are not counted.
+    pub totals: Option<Totals>,
+}
+
+/// What is due for a script.
+#[derive(Default)]
+pub struct Due {
+    /// All that the program writes.
+    pub output: Vec<u8>,
+    pub dumps: Vec<Dump>,
+}
+
+/// A dump among all that the program writes.
+pub struct Dump {
+    /// The command's place among the commands.
+    pub command: usize,
+    /// Where its first byte stands in the output.
+    pub at: usize,
+    pub totals: Option<Totals>,
+}
+
+/// What the program writes, with the bus totals that are due in its dumps.
+pub fn due(script: &[u8]) -> Due {
+    let mut due = Due::default();
+    let mut command = 0;
+    play(script, |part| {
+        if part.command == Some(Command::Dump) {
+            due.dumps.push(Dump {
+                command,
+                at: due.output.len(),
+                totals: part.totals,
+            });
+        }
+        due.output.extend(part.answer);
+        command += 1;
+    });
+    due
 }
 
 /// All that the program writes.
 pub fn output(script: &[u8]) -> Vec<u8> {
-    let mut output = Vec::new();
-    play(script, |part| output.extend(part.answer));
-    output
+    due(script).output
 }
 
 /// The same, command by command.
@@ -38,16 +74,19 @@ fn play(script: &[u8], mut each: impl FnMut(Part)) {
     let Some(mut model) = started(&mut input, script.len()) else {
         return each(malformed(0));
     };
+    let mut past = Past::none();
     while !input.is_empty() {
         let at = script.len() - input.0.len();
         let Some(command) = input.command() else {
             return each(malformed(at));
         };
         let answer = model.answer(&command);
+        past.follow(&command, &answer, model.machine());
         each(Part {
             at,
             command: Some(command),
             answer,
+            totals: past.totals(),
         });
     }
 }
@@ -57,6 +96,7 @@ fn malformed(at: usize) -> Part {
         at,
         command: None,
         answer: vec![MALFORMED],
+        totals: None,
     }
 }
 
