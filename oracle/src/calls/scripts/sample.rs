@@ -9,6 +9,7 @@ use crate::calls::snapshots;
 use crate::calls::touched::PLACES;
 use crate::images::{saying_invented, PARTLY_USED};
 use crate::programs::HALT;
+use crate::report::inputs::examples::example_11;
 use crate::sizes::{MEMORY_WORDS, TEXT, TRACE_RECORDS};
 
 /// The bounds of the lists, as values of their fields.
@@ -38,6 +39,7 @@ pub fn script() -> Vec<u8> {
     direct_runs(&mut draft);
     direct_refusals(&mut draft);
     partly_used(&mut draft);
+    bus_totals(&mut draft);
     let mut script = draft.bytes();
     // Three bytes of a run's operands.
     script.extend([0x06, 0x00, 0x00, 0x00]);
@@ -320,4 +322,19 @@ fn partly_used(draft: &mut Draft) {
         draft.add_all([step.clone(), step.clone()]);
         draft.add_all([load(&[0xEABC, 0x7011]), step.clone(), step, Command::Dump]);
     }
+}
+
+/// Document 01's example 11, by a run: 6 bus reads and 2 bus writes. Then the same
+/// program with 16 ticks that are undone before the run. These are LOAD [yz] and
+/// STORE, and LOAD yz up to its second fetch tick: 4 reads and a write, so that the
+/// bus counters come to 10 and 3, while instructions and micro operations are those
+/// of the run alone. Behind what the stores reach the second image says in ASCII
+/// that it is invented.
+fn bus_totals(draft: &mut Draft) {
+    let image = example_11().image;
+    let saying = [&image[..], &[0; 2], &saying_invented()].concat();
+    draft.add_all([Command::Load(image), run(9), Command::Dump]);
+    draft.add_all([Command::Load(saying), Command::Push]);
+    draft.add_all(vec![Command::Micro; 16]);
+    draft.add_all([Command::Undo, run(9), Command::Dump]);
 }
