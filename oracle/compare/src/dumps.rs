@@ -1,9 +1,13 @@
-//! What stands at a place of a dump, in words.
+//! What stands at a place of a dump, in words, and where the bus counters do.
 
+use oracle::encoding::number;
 use oracle::sizes::{MEMORY_WORDS, REGISTERS, TEXT, TRACE_RECORDS};
 
+/// The first of the two bus counters, the writes behind the reads.
+const BUS_READS: &str = "bus reads";
+
 /// The parts of a dump that are always as long, in their order.
-const PARTS: [(&str, usize); 15] = [
+const PARTS: [(&str, usize); 18] = [
     ("PC", 1),
     ("IR", 2),
     ("registers", 2 * REGISTERS),
@@ -14,7 +18,10 @@ const PARTS: [(&str, usize); 15] = [
     ("execute ticks", 1),
     ("halted", 1),
     ("fault", 4),
-    ("counters", 4 * 8),
+    ("instructions", 8),
+    ("micro operations", 8),
+    (BUS_READS, 8),
+    ("bus writes", 8),
     ("last transfer", 4),
     ("last ALU record", 8),
     ("image", 2 + 2 * MEMORY_WORDS),
@@ -34,6 +41,14 @@ pub fn place(dump: &[u8], at: usize) -> String {
         start += length;
     }
     format!("the store, its byte {}", at - start)
+}
+
+/// Bus reads and bus writes; none where the dump ends before them.
+pub fn bus_counters(dump: &[u8]) -> Option<[u64; 2]> {
+    let before = PARTS.iter().take_while(|(name, _)| *name != BUS_READS);
+    let at = before.map(|(_, length)| length).sum();
+    let mut counters = dump.get(at..)?;
+    Some([number(&mut counters, 8)?, number(&mut counters, 8)?])
 }
 
 /// All parts but the store.
@@ -56,7 +71,7 @@ fn count(dump: &[u8], at: usize) -> usize {
 
 #[cfg(test)]
 mod tests {
-    use super::place;
+    use super::{bus_counters, place};
     use oracle::calls::commands::{script, Command};
     use oracle::calls::program;
 
@@ -83,5 +98,17 @@ mod tests {
         let touched = touched.expect("two addresses are touched");
         assert_eq!(place(&dump, touched + 2), "touched addresses, its byte 2");
         assert_eq!(place(&dump, touched + 4), "trace, its byte 0");
+    }
+
+    /// Three words are fetched, and two are stored.
+    #[test]
+    fn the_bus_counters_stand_where_the_dump_has_them() {
+        let dump = dump();
+        assert_eq!(bus_counters(&dump), Some([3, 2]));
+        assert_eq!(place(&dump, 62), "bus reads, its byte 0");
+        assert_eq!(place(&dump, 77), "bus writes, its byte 7");
+        assert_eq!(bus_counters(&dump[..78]), Some([3, 2]));
+        assert_eq!(bus_counters(&dump[..77]), None);
+        assert_eq!(bus_counters(&[]), None);
     }
 }

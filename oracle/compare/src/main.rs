@@ -16,6 +16,7 @@ mod reports;
 mod scripts;
 mod tally;
 mod texts;
+mod totals;
 mod words;
 
 use oracle::assembly;
@@ -46,8 +47,10 @@ fn main() -> ExitCode {
         });
     }
     for family in &oracle::calls::scripts::FAMILIES {
-        parts.part(&format!("massey_calls, {}", family.name), &|tally| {
-            scripts::compare(tally, family)
+        let bytes = format!("massey_calls, {}", family.name);
+        let totals = format!("massey_calls, totals, {}", family.name);
+        parts.two_parts([&bytes, &totals], &|tallies| {
+            scripts::compare(tallies, family)
         });
     }
     parts.part("massey_calls, pieces", &scripts::compare_pieces);

@@ -3,8 +3,8 @@
 use crate::tally::Tally;
 use std::process::ExitCode;
 
-/// The exit status where no part was picked, so that nothing was compared.
-const NONE_PICKED: u8 = 2;
+/// The exit status where nothing was compared.
+const NOTHING: u8 = 2;
 
 pub struct Parts {
     /// How the names of the picked parts begin.
@@ -28,28 +28,57 @@ impl Parts {
 
     /// Runs a part, if it is picked.
     pub fn part(&mut self, name: &str, compare: &dyn Fn(&mut Tally)) {
-        self.names.push(name.to_string());
-        if !name.starts_with(&self.picked) {
+        if self.picks(name) {
+            let mut tally = Tally::default();
+            compare(&mut tally);
+            self.count(name, &tally);
+        }
+    }
+
+    /// Runs two parts at once, if either is picked, since both look at the same runs
+    /// of a program. One that is not picked shows and counts nothing.
+    pub fn two_parts(&mut self, names: [&str; 2], compare: &dyn Fn(&mut [Tally; 2])) {
+        let picked = names.map(|name| self.picks(name));
+        if picked == [false; 2] {
             return;
         }
+        let mut tallies = picked.map(|picked| match picked {
+            true => Tally::default(),
+            false => Tally::silent(),
+        });
+        compare(&mut tallies);
+        for at in [0, 1] {
+            if picked[at] {
+                self.count(names[at], &tallies[at]);
+            }
+        }
+    }
+
+    /// Takes a part's name; says whether it is picked.
+    fn picks(&mut self, name: &str) -> bool {
+        self.names.push(name.to_string());
+        name.starts_with(&self.picked)
+    }
+
+    /// Says how a part went.
+    fn count(&mut self, name: &str, tally: &Tally) {
         self.run += 1;
-        let mut tally = Tally::default();
-        compare(&mut tally);
         println!("{name}: {tally}");
         self.total.add(tally.passed(), tally.failed());
     }
 
     /// Says how it went. A misspelt name must not look like a comparison that
-    /// found nothing.
+    /// found nothing, nor may a part that has nothing to compare.
     pub fn end(self) -> ExitCode {
         if self.run == 0 {
             eprintln!("no part's name begins with {:?}; there are:", self.picked);
             self.names.iter().for_each(|name| eprintln!("    {name}"));
-            return NONE_PICKED.into();
+            return NOTHING.into();
         }
         println!("{}", self.total);
-        match self.total.failed() {
-            0 => ExitCode::SUCCESS,
+        match [self.total.passed(), self.total.failed()] {
+            [0, 0] => NOTHING.into(),
+            [_, 0] => ExitCode::SUCCESS,
             _ => ExitCode::FAILURE,
         }
     }

@@ -24,22 +24,26 @@ pub struct Run<'a> {
 
 impl Run<'_> {
     /// Makes the run and compares its whole output; `describe` says how another
-    /// output differs.
+    /// output differs. Gives what was written, which is nothing where the run failed.
     pub fn compare(
         &self,
         tally: &mut Tally,
         name: impl FnOnce() -> String,
         describe: impl FnOnce(&[u8]) -> String,
-    ) {
+    ) -> Vec<u8> {
         let written = run(self.program, |input| match self.piece {
             Some(piece) => feed(input, self.input, piece),
             None => input.write_all(self.input),
         });
         let same = written.as_ref().is_ok_and(|output| output == self.wanted);
         tally.check(same, || {
-            let what = written.map_or_else(|error| error, |output| describe(&output));
+            let what = match &written {
+                Ok(output) => describe(output),
+                Err(error) => error.clone(),
+            };
             format!("{}, {}: {what}", self.program, name())
         });
+        written.unwrap_or_default()
     }
 }
 

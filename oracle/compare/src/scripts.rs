@@ -2,7 +2,7 @@
 
 use crate::program::Run;
 use crate::tally::Tally;
-use crate::{difference, dumps};
+use crate::{difference, dumps, totals};
 use oracle::calls;
 use oracle::calls::commands::Command;
 use oracle::calls::program::Part;
@@ -20,9 +20,18 @@ const BYTES: usize = 16;
 const PIECES: [usize; 4] = [1, 5, 12, 100];
 const IN_PIECES: usize = 8;
 
-pub fn compare(tally: &mut Tally, family: &Family) {
+/// All that the program writes, and the bus totals of its dumps, by one run of each
+/// script.
+pub fn compare([bytes, totals]: &mut [Tally; 2], family: &Family) {
     for number in (0..(family.count)()).step_by(every()) {
-        compare_one(tally, family, number, None);
+        let script = (family.script)(number);
+        let due = calls::program::due(&script);
+        let name = || format!("script {} {number}", family.name);
+        let written = compare_one(bytes, &script, &due.output, None, name);
+        totals::compare(totals, &due.dumps, &written, |dump| {
+            let parts = calls::program::parts(&script);
+            format!("{}: {}", name(), describe_place(&parts[..=dump.command]))
+        });
     }
 }
 
@@ -30,8 +39,11 @@ pub fn compare(tally: &mut Tally, family: &Family) {
 pub fn compare_pieces(tally: &mut Tally) {
     for family in FAMILIES.iter().filter(|family| family.name != "lists") {
         for number in 0..(family.count)().min(IN_PIECES) {
+            let script = (family.script)(number);
+            let wanted = calls::program::output(&script);
             let piece = PIECES[number % PIECES.len()];
-            compare_one(tally, family, number, Some(piece));
+            let name = || format!("script {} {number}", family.name);
+            compare_one(tally, &script, &wanted, Some(piece), name);
         }
     }
 }
@@ -44,17 +56,21 @@ pub fn every() -> usize {
     every
 }
 
-/// One script, at once or in pieces.
-fn compare_one(tally: &mut Tally, family: &Family, number: usize, piece: Option<usize>) {
-    let script = (family.script)(number);
+/// One script, at once or in pieces; gives what was written.
+fn compare_one(
+    tally: &mut Tally,
+    script: &[u8],
+    wanted: &[u8],
+    piece: Option<usize>,
+    name: impl FnOnce() -> String,
+) -> Vec<u8> {
     let run = Run {
         program: "massey_calls",
-        input: &script,
+        input: script,
         piece,
-        wanted: &calls::program::output(&script),
+        wanted,
     };
-    let name = || format!("script {} {number}", family.name);
-    run.compare(tally, name, |output| describe(&script, output));
+    run.compare(tally, name, |output| describe(script, output))
 }
 
 /// The first command whose answer differs.
@@ -72,23 +88,30 @@ fn describe(script: &[u8], output: &[u8]) -> String {
     format!("{more} bytes more than due: {}", hex(&output[from..]))
 }
 
-/// The last of these commands, the few before it, and where its answer first
-/// differs.
+/// The last of these commands, and where its answer first differs.
 fn describe_last(parts: &[Part], found: &[u8]) -> String {
     let part = &parts[parts.len() - 1];
-    let shown: Vec<String> = parts.iter().rev().take(COMMANDS).rev().map(name).collect();
     let same = difference::same(found, &part.answer);
     let place = match part.command {
         Some(Command::Dump) => format!(" ({})", dumps::place(&part.answer, same)),
         _ => String::new(),
     };
     format!(
-        "command {} at byte {}, the last of [{}]: from byte {same}{place} of its answer {}, not {}",
-        parts.len() - 1,
-        part.at,
-        shown.join("; "),
+        "{}: from byte {same}{place} of its answer {}, not {}",
+        describe_place(parts),
         hex(&found[same..]),
         hex(&part.answer[same..]),
+    )
+}
+
+/// The last of these commands, and the few before it.
+fn describe_place(parts: &[Part]) -> String {
+    let shown: Vec<String> = parts.iter().rev().take(COMMANDS).rev().map(name).collect();
+    format!(
+        "command {} at byte {}, the last of [{}]",
+        parts.len() - 1,
+        parts[parts.len() - 1].at,
+        shown.join("; ")
     )
 }
 

@@ -13,6 +13,14 @@ pub struct Tally {
 }
 
 impl Tally {
+    /// One that shows nothing.
+    pub fn silent() -> Self {
+        Tally {
+            shown: SHOWN,
+            ..Tally::default()
+        }
+    }
+
     pub fn passed(&self) -> u64 {
         self.passed
     }

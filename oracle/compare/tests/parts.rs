@@ -3,7 +3,13 @@
 use std::process::{Command, Output};
 
 fn compare(picked: &str) -> Output {
+    compare_each(1, picked)
+}
+
+/// Each so many-th script alone.
+fn compare_each(every: usize, picked: &str) -> Output {
     Command::new(env!("CARGO_BIN_EXE_compare"))
+        .env("MASSEY_EVERY", every.to_string())
         .arg(picked)
         .output()
         .expect("compare can be started")
@@ -33,4 +39,25 @@ fn a_name_that_picks_a_part_runs_it_alone() {
         said,
         "massey_calls, sample: 1 passed, 0 failed\n1 passed, 0 failed\n"
     );
+}
+
+/// The bus totals come from the same runs as the bytes, and can be picked alone.
+#[test]
+fn totals_are_parts_of_their_own() {
+    let ended = compare("massey_calls, totals, sample");
+    let said = String::from_utf8_lossy(&ended.stdout);
+    assert!(ended.status.success(), "{}", ended.status);
+    assert_eq!(
+        said,
+        "massey_calls, totals, sample: 68 passed, 0 failed\n68 passed, 0 failed\n"
+    );
+}
+
+/// No dump of this family has bus totals.
+#[test]
+fn a_part_that_has_nothing_to_compare_fails() {
+    let ended = compare_each(1_000, "massey_calls, totals, direct");
+    let said = String::from_utf8_lossy(&ended.stdout);
+    assert!(said.ends_with("\n0 passed, 0 failed\n"), "{said}");
+    assert_eq!(ended.status.code(), Some(2));
 }

@@ -1,0 +1,40 @@
+//! Document 02, Change 5: bus reads and bus writes in the dumps that the port wrote,
+//! held to the ticks that were made since the last start.
+
+use crate::dumps;
+use crate::tally::Tally;
+use oracle::calls::program::Dump;
+use oracle::calls::totals::Totals;
+
+/// Each dump is one comparison, but for those that have no count. `place` says which
+/// dump it is.
+pub fn compare(tally: &mut Tally, dumps: &[Dump], output: &[u8], place: impl Fn(&Dump) -> String) {
+    for dump in dumps {
+        let Some(due) = dump.totals else { continue };
+        let found = output.get(dump.at..).and_then(dumps::bus_counters);
+        tally.check(found == Some([due.reads(), due.writes()]), || {
+            format!(
+                "massey_calls, totals, {}: {}",
+                place(dump),
+                describe(found, &due)
+            )
+        });
+    }
+}
+
+fn describe(found: Option<[u64; 2]>, due: &Totals) -> String {
+    let found = match found {
+        Some([reads, writes]) => format!("{reads} bus reads and {writes} bus writes"),
+        None => "no bus counters".to_string(),
+    };
+    format!(
+        "{found}, not {} and {}: since the last start {} second fetch ticks, {} second LOAD [yz] \
+         ticks, {} third STORE ticks and {} undoes",
+        due.reads(),
+        due.writes(),
+        due.second_fetches,
+        due.second_loads,
+        due.third_stores,
+        due.undoes
+    )
+}
