@@ -1,17 +1,18 @@
 //! Document 02, Change 5: bus reads and bus writes in the dumps that the port wrote,
 //! held to the ticks that were made since the last start.
 
-use crate::dumps;
+use crate::dumps::bus_counters;
 use crate::tally::Tally;
 use oracle::calls::program::Dump;
 use oracle::calls::totals::Totals;
 
-/// Each dump is one comparison, but for those that have no count. `place` says which
-/// dump it is.
+/// Each dump is one comparison, but for those that have no count. It is looked at where
+/// it is due. Behind an answer of another length it stands elsewhere, and what is found
+/// there is no counter: then the bytes differ too. `place` says which dump it is.
 pub fn compare(tally: &mut Tally, dumps: &[Dump], output: &[u8], place: impl Fn(&Dump) -> String) {
     for dump in dumps {
         let Some(due) = dump.totals else { continue };
-        let found = output.get(dump.at..).and_then(dumps::bus_counters);
+        let found = output.get(dump.at..).and_then(bus_counters);
         tally.check(found == Some([due.reads(), due.writes()]), || {
             format!(
                 "massey_calls, totals, {}: {}",
