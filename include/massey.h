@@ -20,8 +20,10 @@
  * changes. No call answers it, so it speaks for this header alone. Version 2 has
  * the word behind the disassembly of 12,015 words (massey_disassemble); in
  * version 3 a register that an instruction clears is open (massey_mark); version
- * 4 has massey_assemble, and those 12,015 words as .word in a listing. */
-#define MASSEY_VERSION 4
+ * 4 has massey_assemble, and those 12,015 words as .word in a listing; version 5
+ * has one record more at the end of a report (MASSEY_RECORD_HIDDEN), so that its
+ * buffer and its length have three bytes more. */
+#define MASSEY_VERSION 5
 
 /* The stack that is enough for any of the calls. Measured, less what an empty
  * thread takes: massey_report 48,632 bytes, massey_assemble 7,768 and
@@ -59,7 +61,7 @@
 /* A report: the longest input that is served, the least buffer, which is also
  * the longest report, and the most trace records in one. */
 #define MASSEY_REPORT_INPUT 1036
-#define MASSEY_REPORT_LENGTH 33930
+#define MASSEY_REPORT_LENGTH 33933
 #define MASSEY_TRACE 512
 
 /* ---- refusals: a refused call answers minus one of these, and where several
@@ -106,10 +108,12 @@ enum massey_record {
     MASSEY_RECORD_WORD = 0x06,       /* address 1, mark 1, value 2; one for each
                                         word of memory, as the run left it */
     MASSEY_RECORD_TOUCHED = 0x07,    /* address 1; in order of first writing */
-    MASSEY_RECORD_END = 0x08         /* stop 1, PC 1, IR 2, MAR 1, MDR's mark 1,
+    MASSEY_RECORD_END = 0x08,        /* stop 1, PC 1, IR 2, MAR 1, MDR's mark 1,
                                         MDR 2, instructions 8, micro operations
                                         8, bus reads 8, bus writes 8, fault
                                         kind 1, its word 2, its address 1 */
+    MASSEY_RECORD_HIDDEN = 0x0A      /* how many words of memory are marked as
+                                        the run left them 2 */
 };
 
 /* The length of a whole record of each kind, its kind byte included. */
@@ -121,6 +125,7 @@ enum massey_record {
 #define MASSEY_RECORD_WORD_LENGTH 5
 #define MASSEY_RECORD_TOUCHED_LENGTH 2
 #define MASSEY_RECORD_END_LENGTH 45
+#define MASSEY_RECORD_HIDDEN_LENGTH 3
 
 /* The phase of a trace record. 1 and 3, decode and halt, stand in none. */
 enum massey_phase {
@@ -176,12 +181,12 @@ int64_t massey_assemble(const uint8_t *text, size_t text_len, uint8_t *out,
                         size_t out_len);
 
 /* Makes a guarded run and writes its report to the start of out, keeps the bytes
- * past it, and answers its length, at most 33,930. The input is that of the
+ * past it, and answers its length, at most 33,933. The input is that of the
  * program massey_report: image length 2 bytes, the words 2 each, 256 marks 1
  * each, budget 8, breakpoint count 2, the breakpoints 1 each. Refused is -1 an
  * image length over 256, else -2 a mark that is not 0 or 1, else -3 a breakpoint
  * count over 256, else -4 a budget over 1,000,000, all of these where the
- * number, or all the marks, are there; else -5 where out has under 33,930 bytes,
+ * number, or all the marks, are there; else -5 where out has under 33,933 bytes,
  * else -6 where the input is shorter or longer than its counts say. */
 int64_t massey_report(const uint8_t *input, size_t input_len, uint8_t *out,
                       size_t out_len);

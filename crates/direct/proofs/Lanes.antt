@@ -3,7 +3,7 @@
 use Prim.Native.Nat.{ℕ, suc, _+_, _<_, _%_, _^_}
 use native.Mathlib.Omega.{arith}
 use mathlib.Core.Path.{_≡_, refl, sym, subst, _∙_}
-use mathlib.Core.Bool.{Bool, true, false, cond, not}
+use mathlib.Core.Bool.{Bool, true, false, cond, not, _&&_}
 use mathlib.Core.List.{List}
 use borrow.Author.Tests.{eqb-true}
 use lib.Dec.{eqb}
@@ -18,6 +18,9 @@ use Rattle.control.specs.declared.control.Operands.{Operands}
 use Rattle.control.specs.declared.counters.Counters.{Counters}
 use Rattle.control.proofs.Lawfuls.{true-false}
 use Rattle.marks.specs.Marks.{Marks, marked, marksOf, mdrMarked, executedMarks, instructionMarks}
+use Rattle.marks.specs.Total.{IsCount}
+use Rattle.marks.specs.Forms.{totalBy}
+use Rattle.marks.proofs.Totals.{total-counts}
 use Rattle.guard.specs.Stops.{hiddenJump}
 use Rattle.guard.specs.Forms.{passes}
 use Rattle.trace.specs.Cells.{memoryAfter}
@@ -35,7 +38,8 @@ use Rattle.direct.proofs.Tables.{Live, touch-live}
 
 -- ---- the calls of one instruction
 
-pub is-step : (d : Decoded) (w : ℕ) (s : Slots) (k : Work) {o : Operands} {p : ℕ} {n : Noted} {q : Marks} {m r : List ℕ} {c : Counters}
+pub is-step : (d : Decoded) (w : ℕ) (s : Slots) (k : Work) {o : Operands} {p : ℕ} {n : Noted} {q : Marks} {m r : List ℕ} {c : Counters} {t : ℕ}
+    → t ≡ totalBy d w (s .marks) (s .registerMarks) (s .lane .«hidden_total»)
     → q ≡ executedMarks d w (marksOf (s .marks) (s .registerMarks) 0)
     → o ≡ operands w (s .memory) (s .registers)
     → p ≡ (s .lane .pc + 1) % 2 ^ 8
@@ -44,13 +48,13 @@ pub is-step : (d : Decoded) (w : ℕ) (s : Slots) (k : Work) {o : Operands} {p :
     → m ≡ memoryAfter (k .bus) (s .memory)
     → n ≡ touchSeen (k .bus) (notedOf (s .lane .«touched_len») (s .touched) (s .seen))
     → c ≡ countWhole d (k .bus) (s .lane .counters)
-    → slotsOf (record { counters = c; «touched_len» = n .places .count; alu = k .alu; pc = k .pc }) m r (n .places .items) (n .seen) (q .memory) (q .registers) ≡ slotStep d w s
+    → slotsOf (record { counters = c; «touched_len» = n .places .count; alu = k .alu; «hidden_total» = t; pc = k .pc }) m r (n .places .items) (n .seen) (q .memory) (q .registers) ≡ slotStep d w s
 unfolding slotStep
-is-step d w s k {n = n} {q} eq eo ep ek er em en ec =
+is-step d w s k {n = n} {q} et eq eo ep ek er em en ec =
     let e : k ≡ worked d w ((s .lane .pc + 1) % 2 ^ 8) (s .lane .alu) (operands w (s .memory) (s .registers)) = ek ∙ (λ i. worked d w (ep i) (s .lane .alu) (eo i)) in
     let t = notedOf (s .lane .«touched_len») (s .touched) (s .seen) in
-    (λ i. slotsOf (record { counters = ec i; «touched_len» = en i .places .count; alu = k .alu; pc = k .pc }) (em i) (er i) (en i .places .items) (en i .seen) (eq i .memory) (eq i .registers))
-    ∙ (λ i. slotsBy d s (e i) (touchSeen (e i .bus) t) (executedMarks d w (marksOf (s .marks) (s .registerMarks) 0)))
+    (λ i. slotsOf (record { counters = ec i; «touched_len» = en i .places .count; alu = k .alu; «hidden_total» = et i; pc = k .pc }) (em i) (er i) (en i .places .items) (en i .seen) (eq i .memory) (eq i .registers))
+    ∙ (λ i. slotsBy d s (e i) (touchSeen (e i .bus) t) (executedMarks d w (marksOf (s .marks) (s .registerMarks) 0)) (totalBy d w (s .marks) (s .registerMarks) (s .lane .«hidden_total»)))
 
 -- by its opcode, where it does not halt
 pub next-is : (o : Opcode) (w : ℕ) (s : Slots) → halts (Known o) ≡ false → slotNext o w s ≡ slotStep (Known o) w s
@@ -81,11 +85,11 @@ pub record Passed (b m w : ℕ) (r : List ℕ) : Type 0 where
   pub word : marked m ≡ false
   pub jump : hiddenJump marked w r ≡ false
 
-pub passed : (b m w : ℕ) (r : List ℕ) → passes true b m w r ≡ true → Passed b m w r
+pub passed : (b m w : ℕ) (r : List ℕ) → passes true b m && not (hiddenJump marked w r) ≡ true → Passed b m w r
 unfolding passes
 passed b m w r e = go (eqb b 0) (marked m) (hiddenJump marked w r) refl refl refl e
   where
-    go : (z h j : Bool) → eqb b 0 ≡ z → marked m ≡ h → hiddenJump marked w r ≡ j → cond z (cond h false (not j)) false ≡ true → Passed b m w r
+    go : (z h j : Bool) → eqb b 0 ≡ z → marked m ≡ h → hiddenJump marked w r ≡ j → cond z (not h) false && not j ≡ true → Passed b m w r
     go true false false a x y f = record { here = eqb-true b 0 a; word = x; jump = y }
     go true false true a x y f = absurd (true-false (sym f))
     go true true j a x y f = absurd (true-false (sym f))
@@ -166,6 +170,10 @@ module _ (f : Fault) (s : Slots) (t : Noting s) where
   pub step-marks : marksOf (slotStep d w s .marks) (slotStep d w s .registerMarks) 0 ≡ mdrMarked 0 (instructionMarks w (marksIn s))
   unfolding slotStep instructionMarks
   step-marks = refl
+
+  pub step-total : IsCount (s .marks) (s .lane .«hidden_total») → IsCount (slotStep d w s .marks) (slotStep d w s .lane .«hidden_total»)
+  unfolding slotStep
+  step-total c = total-counts d w (marksIn s) (s .lane .«hidden_total») c
 
   pub step-byte : slotStep d w s .lane .pc < 256
   unfolding slotStep

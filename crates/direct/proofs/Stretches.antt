@@ -13,6 +13,7 @@ use Rattle.isa.specs.Word.{decodeWord}
 use Rattle.control.specs.declared.control.Fault.{Fault}
 use Rattle.control.specs.declared.counters.Counters.{Counters}
 use Rattle.marks.specs.Marks.{Marks, marked, marksOf, mdrMarked, instructionMarks}
+use Rattle.marks.specs.Total.{IsCount}
 use Rattle.marks.proofs.Moves.{fetch-opens}
 use Rattle.trace.specs.Touched.{TouchFit}
 use Rattle.direct.specs.declared.light.Lane.{Lane}
@@ -22,7 +23,7 @@ use Rattle.direct.specs.Table.{Table, tableOf}
 use Rattle.direct.specs.Lane.{Slots, slotsOf, slotStep, lastingOf, slotWord, goesOn, Stretch, stretched, onlyIf, stretch, stretchLength, lengthFor, Ahead, ahead, leads, forward, lightIn, marksIn}
 use Rattle.direct.proofs.Tables.{table-is, unbroken}
 use Rattle.direct.proofs.Counts.{Room, room-now, room-whole}
-use Rattle.direct.proofs.Lanes.{passed, passes-more, lasts-counts, Noting, step-notes, step-light, step-marks, step-byte, step-room}
+use Rattle.direct.proofs.Lanes.{passed, passes-more, lasts-counts, Noting, step-notes, step-light, step-marks, step-total, step-byte, step-room}
 
 -- ---- a turn of the loop over instructions
 
@@ -73,16 +74,17 @@ pub leads-none : (b : List ℕ) (n k : ℕ) (kept : Ahead) (s : Slots) → n ≡
 unfolding leads
 leads-none b n k kept s e = ap (λ (m : ℕ). leads b m kept k s) e
 
--- ---- where they stand: breakpoints, the fault, instructions begun before, the machine and the marks at first, and how many were made since
+-- ---- where they stand: breakpoints, the fault, instructions begun before, the machine, its marks and their total at first, and how many were made since
 
-pub record Stands (b : List ℕ) (f : Fault) (k : ℕ) (l : Light) (q : Marks) (j : ℕ) (s : Slots) : Type 0 where
+pub record Stands (b : List ℕ) (f : Fault) (k : ℕ) (l : Light) (q : Marks) (u : ℕ) (j : ℕ) (s : Slots) : Type 0 where
   pub light : lightIn f s ≡ lightSteps j l
   pub marks : marksIn s ≡ mdrMarked 0 (marksSteps j l q)
+  pub total : IsCount (q .memory) u → IsCount (s .marks) (s .lane .«hidden_total»)
   pub fast : FastFor marked b k j l q
   pub notes : Noting s
   pub byte : s .lane .pc < 256
 
-module _ (b t : List ℕ) (table : Table b t) (f : Fault) (k : ℕ) (l : Light) (q : Marks) where
+module _ (b t : List ℕ) (table : Table b t) (f : Fault) (k : ℕ) (l : Light) (q : Marks) (u : ℕ) where
   moved : {i i' : ℕ} {m m' : Light} {p p' : Marks} → i ≡ i' → m ≡ m' → p ≡ p' → Fast marked b i m p → Fast marked b i' m' p'
   moved {i} {i'} {m} {m'} {p} {p'} x y z a =
       subst (λ (n : Marks). Fast marked b i' m' n) z (subst (λ (n : Light). Fast marked b i' n p) y (subst (λ (n : ℕ). Fast marked b n m p) x a))
@@ -98,7 +100,7 @@ module _ (b t : List ℕ) (table : Table b t) (f : Fault) (k : ℕ) (l : Light) 
       at (yes y) = g i y
       at (no y) = here (omega arith)
 
-  fast-here : (j n : ℕ) (s : Slots) → Stands b f k l q j s → Room n (s .lane .counters) → goesOn t true s ≡ true → halts (decodeWord (slotWord s)) ≡ false → Fast marked b (k + j) (lightSteps j l) (marksSteps j l q)
+  fast-here : (j n : ℕ) (s : Slots) → Stands b f k l q u j s → Room n (s .lane .counters) → goesOn t true s ≡ true → halts (decodeWord (slotWord s)) ≡ false → Fast marked b (k + j) (lightSteps j l) (marksSteps j l q)
   fast-here j n s a r e h =
       let p = passed (getD t (s .lane .pc) 0) (getD (s .marks) (s .lane .pc) 0) (slotWord s) (s .registerMarks) e in
       let x : Fast marked b (k + j) (lightIn f s) (marksIn s) = record { unbroken = unbroken b t (k + j) (s .lane .pc) table (a .byte) (p .here); counted = room-now n (s .lane .counters) r; word = p .word; jump = p .jump; lasts = h } in
@@ -113,7 +115,7 @@ module _ (b t : List ℕ) (table : Table b t) (f : Fault) (k : ℕ) (l : Light) 
   unfolding marksSteps
   next-marks j = let z : suc j ≡ j + 1 = omega arith in ap (λ (n : ℕ). marksSteps n l q) z
 
-  stands-more : (j n : ℕ) (s : Slots) → Stands b f k l q j s → Room n (s .lane .counters) → goesOn t true s ≡ true → halts (decodeWord (slotWord s)) ≡ false → Stands b f k l q (j + 1) (slotStep (decodeWord (slotWord s)) (slotWord s) s)
+  stands-more : (j n : ℕ) (s : Slots) → Stands b f k l q u j s → Room n (s .lane .counters) → goesOn t true s ≡ true → halts (decodeWord (slotWord s)) ≡ false → Stands b f k l q u (j + 1) (slotStep (decodeWord (slotWord s)) (slotWord s) s)
   stands-more j n s a r e h =
       let g = fast-here j n s a r e h in
       record {
@@ -122,28 +124,29 @@ module _ (b t : List ℕ) (table : Table b t) (f : Fault) (k : ℕ) (l : Light) 
             step-marks f s (a .notes)
             ∙ (λ i. mdrMarked 0 (instructionMarks (wordAt (a .light i)) (a .marks i)))
             ∙ ap (mdrMarked 0) (fetch-opens (wordAt (lightSteps j l)) (mdrMarked 0 (marksSteps j l q)) (marksSteps j l q) refl ∙ next-marks j);
+        total = λ c. step-total f s (a .notes) (a .total c);
         fast = fast-more j (a .fast) g;
         notes = step-notes f s (a .notes);
         byte = step-byte f s (a .notes);
       }
 
   -- a stretch, of which i were made, from where J were; there is room for what is left of it
-  stretch-stands : (J n i : ℕ) (s : Slots) → Stands b f k l q (J + i) s → Room n (s .lane .counters) → Stands b f k l q (J + stretch t n i s .made) (stretch t n i s .slots)
+  stretch-stands : (J n i : ℕ) (s : Slots) → Stands b f k l q u (J + i) s → Room n (s .lane .counters) → Stands b f k l q u (J + stretch t n i s .made) (stretch t n i s .slots)
   unfolding stretch
   stretch-stands J zero i s a r = a
   stretch-stands J (suc n) i s a r =
       go (goesOn t true s) (counts (lastingOf (decodeWord (slotWord s)))) refl refl (λ e h.
       let z : J + i + 1 ≡ J + (i + 1) = omega arith in
       stretch-stands J n (i + 1) (slotStep (decodeWord (slotWord s)) (slotWord s) s)
-      (subst (λ (m : ℕ). Stands b f k l q m (slotStep (decodeWord (slotWord s)) (slotWord s) s)) z (stands-more (J + i) (suc n) s a r e (lasts-counts (decodeWord (slotWord s)) h)))
+      (subst (λ (m : ℕ). Stands b f k l q u m (slotStep (decodeWord (slotWord s)) (slotWord s) s)) z (stands-more (J + i) (suc n) s a r e (lasts-counts (decodeWord (slotWord s)) h)))
       (step-room n s r))
     where
       next : Slots
       next = slotStep (decodeWord (slotWord s)) (slotWord s) s
 
       go : (g c : Bool) → goesOn t true s ≡ g → counts (lastingOf (decodeWord (slotWord s))) ≡ c
-          → (goesOn t true s ≡ true → counts (lastingOf (decodeWord (slotWord s))) ≡ true → Stands b f k l q (J + stretch t n (i + 1) next .made) (stretch t n (i + 1) next .slots))
-          → Stands b f k l q (J + onlyIf (g && c) (stretched i s) (λ u. stretch t n (i + 1) next) .made) (onlyIf (g && c) (stretched i s) (λ u. stretch t n (i + 1) next) .slots)
+          → (goesOn t true s ≡ true → counts (lastingOf (decodeWord (slotWord s))) ≡ true → Stands b f k l q u (J + stretch t n (i + 1) next .made) (stretch t n (i + 1) next .slots))
+          → Stands b f k l q u (J + onlyIf (g && c) (stretched i s) (λ u. stretch t n (i + 1) next) .made) (onlyIf (g && c) (stretched i s) (λ u. stretch t n (i + 1) next) .slots)
       go false c e h x = a
       go true false e h x = a
       go true true e h x = x e h
@@ -153,18 +156,18 @@ module _ (b t : List ℕ) (table : Table b t) (f : Fault) (k : ℕ) (l : Light) 
   unfolding stretch
   long c s e = room-whole c (λ z. let x : _≡_ {A = ℕ} 0 stretchLength = sym (ap (λ (n : ℕ). stretch t n 0 s .made) z) ∙ eqb-true _ _ e in omega (arith, x))
 
-  whole-stretch : (j : ℕ) (s : Slots) → Stands b f k l q j s → let r = stretch t (lengthFor (s .lane .counters)) 0 s in eqb (r .made) stretchLength ≡ true → Stands b f k l q (j + stretchLength) (r .slots)
+  whole-stretch : (j : ℕ) (s : Slots) → Stands b f k l q u j s → let r = stretch t (lengthFor (s .lane .counters)) 0 s in eqb (r .made) stretchLength ≡ true → Stands b f k l q u (j + stretchLength) (r .slots)
   whole-stretch j s a e =
       let n = lengthFor (s .lane .counters) in
       let r = stretch t n 0 s in
       let g = long (s .lane .counters) s e in
       let none : j ≡ j + 0 = omega arith in
-      subst (λ (m : ℕ). Stands b f k l q (j + m) (r .slots)) (eqb-true (r .made) stretchLength e)
-      (stretch-stands j n 0 s (subst (λ (m : ℕ). Stands b f k l q m s) none a) (subst (λ (m : ℕ). Room m (s .lane .counters)) (sym (g .0)) (g .1)))
+      subst (λ (m : ℕ). Stands b f k l q u (j + m) (r .slots)) (eqb-true (r .made) stretchLength e)
+      (stretch-stands j n 0 s (subst (λ (m : ℕ). Stands b f k l q u m s) none a) (subst (λ (m : ℕ). Room m (s .lane .counters)) (sym (g .0)) (g .1)))
 
   -- what holds of all that can be kept holds of what is: each has a whole stretch behind it
-  module _ (P : Ahead → Type 0) (B : ℕ) (keep : (j : ℕ) (s : Slots) → Stands b f k l q j s → FastFor marked b k (j + stretchLength) l q → j + stretchLength ≤ B → P (ahead j s)) where
-    pub leads-keeps : (n j : ℕ) (kept : Ahead) (s : Slots) → P kept → Stands b f k l q j s → j + n * stretchLength ≤ B → P (leads t n kept j s)
+  module _ (P : Ahead → Type 0) (B : ℕ) (keep : (j : ℕ) (s : Slots) → Stands b f k l q u j s → FastFor marked b k (j + stretchLength) l q → j + stretchLength ≤ B → P (ahead j s)) where
+    pub leads-keeps : (n j : ℕ) (kept : Ahead) (s : Slots) → P kept → Stands b f k l q u j s → j + n * stretchLength ≤ B → P (leads t n kept j s)
     unfolding leads
     leads-keeps zero j kept s p a h = p
     leads-keeps (suc n) j kept s p a h =
@@ -186,12 +189,12 @@ module _ (b : List ℕ) (B : ℕ) (f : Fault) (k : ℕ) (s : Lane) (m r u x y : 
   abbrev pub first : Slots
   first = slotsOf s m r u (tableOf (take (s .«touched_len») u)) x y
 
-  starts : Stands b f k (lightIn f first) (marksOf x y d) 0 first
+  starts : Stands b f k (lightIn f first) (marksOf x y d) (s .«hidden_total») 0 first
   unfolding lightSteps marksSteps
-  starts = record { light = refl; marks = refl; fast = λ i h. absurd (omega arith); notes = record { fit = fit; table = table-is (take (s .«touched_len») u) }; byte = byte }
+  starts = record { light = refl; marks = refl; total = λ c. c; fast = λ i h. absurd (omega arith); notes = record { fit = fit; table = table-is (take (s .«touched_len») u) }; byte = byte }
 
   pub forward-keeps : (P : Ahead → Type 0) → P (ahead 0 first)
-      → ((j : ℕ) (z : Slots) → Stands b f k (lightIn f first) (marksOf x y d) j z → FastFor marked b k (j + stretchLength) (lightIn f first) (marksOf x y d) → j + stretchLength ≤ B → P (ahead j z))
+      → ((j : ℕ) (z : Slots) → Stands b f k (lightIn f first) (marksOf x y d) (s .«hidden_total») j z → FastFor marked b k (j + stretchLength) (lightIn f first) (marksOf x y d) → j + stretchLength ≤ B → P (ahead j z))
       → P (forward b B s m r u x y)
   unfolding forward
-  forward-keeps P p keep = leads-keeps b (tableOf b) (table-is b) f k (lightIn f first) (marksOf x y d) P B keep (B / stretchLength) 0 (ahead 0 first) first p starts (omega arith)
+  forward-keeps P p keep = leads-keeps b (tableOf b) (table-is b) f k (lightIn f first) (marksOf x y d) (s .«hidden_total») P B keep (B / stretchLength) 0 (ahead 0 first) first p starts (omega arith)

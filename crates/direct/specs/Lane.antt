@@ -2,7 +2,7 @@
 -- believe it: `proofs/Stretches.antt` shows that it stands where `lightSteps` and `marksSteps` of `Light` lead.
 -- Assumes nothing.
 use Prim.Native.Nat.{ℕ, zero, suc, _+_, _-_, _*_, _/_, _%_, _^_}
-use mathlib.Core.Bool.{Bool, true, false, cond, _&&_}
+use mathlib.Core.Bool.{Bool, true, false, cond, not, _&&_}
 use mathlib.Core.List.{List}
 use denote.Ref.{now}
 use lib.Dec.{eqb, leb}
@@ -13,9 +13,11 @@ use Rattle.isa.specs.declared.opcode.Decoded.{Decoded}
 use Rattle.isa.specs.declared.opcode.Decoded.the-variants.{Known, Unknown}
 use Rattle.isa.specs.Word.{decodeWord}
 use Rattle.control.specs.declared.control.Fault.{Fault}
-use Rattle.marks.specs.Marks.{Marks, marksOf, executedMarks}
+use Rattle.marks.specs.Marks.{Marks, marked, marksOf, executedMarks}
+use Rattle.marks.specs.Forms.{totalBy}
 use Rattle.control.specs.declared.counters.Counters.{Counters}
 use Rattle.control.specs.Count.{counterLimit}
+use Rattle.guard.specs.Stops.{hiddenJump}
 use Rattle.guard.specs.Forms.{passes}
 use Rattle.trace.specs.Cells.{memoryAfter}
 use Rattle.trace.specs.Forms.{Lent, registersBy}
@@ -48,10 +50,10 @@ left s m r t n x y = slotsOf s (now (m .exit)) (now (r .exit)) (now (t .exit)) (
 
 -- ---- one instruction
 
--- after the work k of a word, with the addresses n noted and the marks q
-abbrev pub slotsBy : Decoded → Slots → Work → Noted → Marks → Slots
-slotsBy d s k n q = record {
-  lane = record { counters = countWhole d (k .bus) (s .lane .counters); «touched_len» = n .places .count; alu = k .alu; pc = k .pc };
+-- after the work k of a word, with the addresses n noted, the marks q and the total t
+abbrev pub slotsBy : Decoded → Slots → Work → Noted → Marks → ℕ → Slots
+slotsBy d s k n q t = record {
+  lane = record { counters = countWhole d (k .bus) (s .lane .counters); «touched_len» = n .places .count; alu = k .alu; «hidden_total» = t; pc = k .pc };
   memory = memoryAfter (k .bus) (s .memory);
   registers = registersBy (k .write) (s .registers);
   touched = n .places .items;
@@ -65,6 +67,7 @@ unfoldable pub slotStep : Decoded → ℕ → Slots → Slots
 slotStep d w s =
     let k = worked d w ((s .lane .pc + 1) % 2 ^ 8) (s .lane .alu) (operands w (s .memory) (s .registers)) in
     slotsBy d s k (touchSeen (k .bus) (notedOf (s .lane .«touched_len») (s .touched) (s .seen))) (executedMarks d w (marksOf (s .marks) (s .registerMarks) 0))
+    (totalBy d w (s .marks) (s .registerMarks) (s .lane .«hidden_total»))
 
 -- the same by the opcode; HALT, which never passes, moves nothing
 abbrev pub slotNext : Opcode → ℕ → Slots → Slots
@@ -118,8 +121,12 @@ abbrev pub slotWord : Slots → ℕ
 slotWord s = getD (s .memory) (s .lane .pc) 0
 
 -- whether the next one passes: the table of breakpoints, whether more are asked for
+abbrev pub passesOn : List ℕ → Bool → Slots → Bool
+passesOn b more s = let pc = s .lane .pc in passes more (getD b pc 0) (getD (s .marks) pc 0)
+
+-- and is no hidden jump
 abbrev pub goesOn : List ℕ → Bool → Slots → Bool
-goesOn b more s = let pc = s .lane .pc in passes more (getD b pc 0) (getD (s .marks) pc 0) (slotWord s) (s .registerMarks)
+goesOn b more s = passesOn b more s && not (hiddenJump marked (slotWord s) (s .registerMarks))
 
 -- as long as they pass and run on, at most n more where k were made
 unfoldable pub stretch : List ℕ → ℕ → ℕ → Slots → Stretch

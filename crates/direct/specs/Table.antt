@@ -43,12 +43,14 @@ notedAtFirst n t s = notedOf n (now (t .entry)) (now (s .entry))
 abbrev pub notedAtLast : ℕ → Lent → Lent → Noted
 notedAtLast n t s = notedOf n (now (t .exit)) (now (s .exit))
 
--- an address written into the next place, unless the table has it or there is none
+-- an address written into the next place, unless the table has it; the table has it then, also where there is no place
 unfoldable pub noteSeen : ℕ → Noted → Noted
 noteSeen a q =
+    let n = q .places .count in
+    let t = set (q .seen) a 1 in
     cond (eqb (getD (q .seen) a 0) 1)
     q
-    (cond (ltb (q .places .count) memoryWords) (notedOf (q .places .count + 1) (set (q .places .items) (q .places .count) a) (set (q .seen) a 1)) q)
+    (cond (ltb n memoryWords) (notedOf (n + 1) (set (q .places .items) n a) t) (notedOf n (q .places .items) t))
 
 abbrev pub touchSeen : BusTransfer → Noted → Noted
 touchSeen Idle q = q

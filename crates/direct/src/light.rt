@@ -9,6 +9,7 @@ use control::Address;
 use control::AluRecord;
 use control::Counters;
 use guard::Begun;
+use guard::hidden_by;
 use guard::may_go;
 use isa::Decoded;
 use isa::Instruction;
@@ -16,6 +17,7 @@ use isa::MEMORY_WORDS;
 use isa::Opcode;
 use isa::REGISTER_COUNT;
 use marks::mark_decoded;
+use marks::total_decoded;
 use trace::set_register;
 use trace::set_word;
 
@@ -24,6 +26,7 @@ pub struct Lane {
     pub counters: Counters,
     pub touched_len: usize,
     pub alu: AluRecord,
+    pub hidden_total: u16,
     pub pc: u8,
 }
 
@@ -42,6 +45,7 @@ fn light_instruction(
     ensures { λ r. ⌜ left r memory registers touched seen marks «register_marks»
         ≡ slotStep decoded word (came s memory registers touched seen marks «register_marks») ⌝ }
 {
+    let total = total_decoded(decoded, word, s.hidden_total, marks, register_marks);
     mark_decoded(decoded, word, marks, register_marks);
     let o = read_operands(word, memory, registers);
     let next = std::num::wrapping_add_u8(s.pc, 1);
@@ -58,6 +62,7 @@ fn light_instruction(
         counters,
         alu: result,
         touched_len: n,
+        hidden_total: total,
         pc: work.pc,
     }
 }
@@ -245,7 +250,8 @@ fn lasting(decoded: Decoded) -> Decoded
     }
 }
 
-// Instructions as long as they pass and run on, at most `limit`; `breaks` is the table of breakpoints.
+// Instructions as long as they pass and run on, at most `limit`; `breaks` is the table of breakpoints. A hidden jump is
+// asked for behind the opcode, so that no other instruction is.
 pub(crate) fn light_stretch(
     from: Lane,
     limit: Begun,
@@ -266,14 +272,22 @@ pub(crate) fn light_stretch(
     loop {
         let at = s.pc as usize;
         let word = memory[at];
-        let go = may_go(made < most, breaks[at], marks[at], word, register_marks);
+        let go = may_go(made < most, breaks[at], marks[at]);
         if !go {
             return Made {
                 lane: s,
                 made: Begun(made),
             };
         }
-        let decoded = lasting(Instruction::from_word(word).opcode());
+        let found = Instruction::from_word(word).opcode();
+        let hidden = hidden_by(found, word, register_marks);
+        if hidden {
+            return Made {
+                lane: s,
+                made: Begun(made),
+            };
+        }
+        let decoded = lasting(found);
         let Decoded::Known(opcode) = decoded else {
             return Made {
                 lane: s,

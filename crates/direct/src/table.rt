@@ -33,7 +33,8 @@ pub(crate) fn first_table(items: &[Address], n: usize) -> [u8; MEMORY_WORDS]
     table_of(items)
 }
 
-// The address `a` is added, once; as many as memory has words are all there are.
+// The address `a` is added, once; as many as memory has words are all there are. The table is set before that is tested,
+// so that the compiler does not test it where the table has the address, as it mostly does.
 fn note_seen(
     a: Address,
     items: &mut [Address; MEMORY_WORDS],
@@ -47,10 +48,10 @@ fn note_seen(
     if seen[at] == 1 {
         return n;
     }
+    seen[at] = 1;
     if MEMORY_WORDS <= n {
         return n;
     }
-    seen[at] = 1;
     items[n] = a;
     n + 1
 }

@@ -3,7 +3,6 @@
 -- Assumes nothing.
 use Prim.Native.Nat.{ℕ}
 use mathlib.Core.Bool.{Bool, false, cond, not}
-use mathlib.Core.List.{List}
 use lib.Dec.{eqb}
 use Rattle.marks.specs.Marks.{marked}
 use Rattle.guard.specs.declared.stops.RunStop.{RunStop}
@@ -12,7 +11,7 @@ use Rattle.guard.specs.declared.stops.RunVerdict.the-variants.{Go as Run
 use Rattle.guard.specs.declared.stops.GuardedStop.{GuardedStop}
 use Rattle.guard.specs.declared.stops.Verdict.{Verdict as Judged}
 use Rattle.guard.specs.declared.stops.Verdict.the-variants.{Go, Stop}
-use Rattle.guard.specs.Stops.{Verdict, go, stop, hiddenJump}
+use Rattle.guard.specs.Stops.{Verdict, go, stop}
 
 -- what the code's verdict says, of a run and of a guarded run
 abbrev pub runVerdictOf : RunVerdict → Verdict RunStop
@@ -23,7 +22,7 @@ abbrev pub verdictOf : Judged → Verdict GuardedStop
 verdictOf Go = go
 verdictOf (Stop c) = stop c
 
--- both, but for their budgets and the counters (02, Change 11): whether more are asked for, the table of breakpoints at the
--- instruction's address, the word's mark, the word, the registers' marks
-unfoldable pub passes : Bool → ℕ → ℕ → ℕ → List ℕ → Bool
-passes more b m w r = cond more (cond (eqb b 0) (cond (marked m) false (not (hiddenJump marked w r))) false) false
+-- both, but for their budgets, the counters and a hidden jump (02, Change 11): whether more are asked for, the table of breakpoints at the
+-- instruction's address, the word's mark
+unfoldable pub passes : Bool → ℕ → ℕ → Bool
+passes more b m = cond more (cond (eqb b 0) (not (marked m)) false) false

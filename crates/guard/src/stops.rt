@@ -5,7 +5,7 @@ ghost use lib.Dec.{eqb};
 ghost use Rattle.control.specs.Count.{overCounted};
 ghost use Rattle.marks.specs.Marks.{marked};
 ghost use Rattle.guard.specs.Stops.{reached, haltStop, verdictIf, runCode, refusalIn, numberIn, addressIn};
-ghost use Rattle.guard.specs.Stops.{stopNumber, haltedStop, isJump, hiddenJump, guardIf};
+ghost use Rattle.guard.specs.Stops.{stopNumber, haltedStop, isJump, hiddenBy, hiddenJump, guardIf};
 ghost use Rattle.guard.specs.Forms.{runVerdictOf, verdictOf, passes};
 use control::Counters;
 use control::Fault;
@@ -191,12 +191,10 @@ fn is_jump(decoded: Decoded) -> bool
     }
 }
 
-// Whether the word is a jump that would test a hidden register; one on R0 tests none.
-fn hidden_jump(word: u16, registers: &[u8; REGISTER_COUNT]) -> bool
-    ensures { λ r. ⌜ r ≡ hiddenJump marked word (now (registers .entry)) ⌝ }
+// Whether an instruction is a jump that would test a hidden register; one on R0 tests none.
+pub fn hidden_by(decoded: Decoded, word: u16, registers: &[u8; REGISTER_COUNT]) -> bool
+    ensures { λ r. ⌜ r ≡ hiddenBy marked decoded word (now (registers .entry)) ⌝ }
 {
-    let i = Instruction::from_word(word);
-    let decoded = i.opcode();
     let jump = is_jump(decoded);
     if !jump {
         return false;
@@ -209,6 +207,15 @@ fn hidden_jump(word: u16, registers: &[u8; REGISTER_COUNT]) -> bool
         return true;
     }
     hides(registers[0])
+}
+
+// The same of a word.
+fn hidden_jump(word: u16, registers: &[u8; REGISTER_COUNT]) -> bool
+    ensures { λ r. ⌜ r ≡ hiddenJump marked word (now (registers .entry)) ⌝ }
+{
+    let i = Instruction::from_word(word);
+    let decoded = i.opcode();
+    hidden_by(decoded, word, registers)
 }
 
 // Whether a guarded run begins the next instruction, or why not.
@@ -252,16 +259,10 @@ pub fn judge(
     Verdict::Go
 }
 
-// What is tested before an instruction of a run and of a guarded run, but for the budget and the counters: whether more
-// are asked for, the table of breakpoints at its address, what is hidden.
-pub fn may_go(
-    more: bool,
-    break_here: u8,
-    mark_here: u8,
-    word: u16,
-    register_marks: &[u8; REGISTER_COUNT],
-) -> bool
-    ensures { λ r. ⌜ r ≡ passes more «break_here» «mark_here» word (now («register_marks» .entry)) ⌝ }
+// What is tested before an instruction of a run and of a guarded run, but for the budget, the counters and a hidden
+// jump: whether more are asked for, the table of breakpoints at its address, its mark.
+pub fn may_go(more: bool, break_here: u8, mark_here: u8) -> bool
+    ensures { λ r. ⌜ r ≡ passes more «break_here» «mark_here» ⌝ }
 {
     if !more {
         return false;
@@ -269,8 +270,5 @@ pub fn may_go(
     if break_here != 0 {
         return false;
     }
-    if hides(mark_here) {
-        return false;
-    }
-    !hidden_jump(word, register_marks)
+    !hides(mark_here)
 }

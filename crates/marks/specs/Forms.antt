@@ -1,16 +1,19 @@
--- What the code's helper functions compute. A reader need not believe it: proofs/Moves.antt shows that it gives `executedMarks`.
+-- What the code's helper functions compute. A reader need not believe it: proofs/Moves.antt shows that it gives `executedMarks`, and proofs/Totals.antt that
+-- a total by `totalBy` is the full count.
 -- It is one form for every instruction: register x, or y, the word that LOAD or STORE reaches, and MDR get a mark; then x is opened where it is cleared.
 -- Assumes nothing.
-use Prim.Native.Nat.{ℕ}
+use Prim.Native.Nat.{ℕ, _+_, _-_, _%_, _^_}
 use mathlib.Core.Bool.{Bool, true, false, cond}
 use mathlib.Core.List.{List}
-use lib.ListN.{set}
+use lib.ListN.{getD, set}
 use Rattle.isa.specs.declared.opcode.Opcode.the-variants.{LoadImmediate, LoadRegister, LoadMemory, StoreMemory, Add, Negate, ShiftRight, ShiftLeft, And, Or, Xor, Jump, Halt}
 use Rattle.isa.specs.declared.opcode.Decoded.{Decoded}
 use Rattle.isa.specs.declared.opcode.Decoded.the-variants.{Known, Unknown}
 use Rattle.isa.specs.Word.{digitX}
+use Rattle.control.specs.Address.{reachedAddress}
 use Rattle.marks.specs.declared.Moved.{Moved}
-use Rattle.marks.specs.Marks.{sameSources, shiftsOut}
+use Rattle.marks.specs.Marks.{marked, sameSources, shiftsOut}
+use Rattle.marks.specs.Total.{hidden, onStore}
 
 -- a register's mark alone, y's or x's: its mark, and the word's own
 abbrev pub oneMark : Bool → ℕ → ℕ → Moved
@@ -44,3 +47,11 @@ moves Unknown w x y z j m = oneMark false x m
 -- the registers' marks with x open, where the instruction clears it
 abbrev pub openedX : Bool → ℕ → List ℕ → List ℕ
 openedX c w r = cond c (set r (digitX w) 0) r
+
+-- a total of 16 bits where one word's mark is changed: the total, its old mark, its new one
+abbrev pub retotalled : ℕ → ℕ → ℕ → ℕ
+retotalled t old new = (t + 2 ^ 16 + hidden marked new - hidden marked old) % 2 ^ 16
+
+-- after the instruction w, decoded: the marks of memory and of the registers before it, the total
+abbrev pub totalBy : Decoded → ℕ → List ℕ → List ℕ → ℕ → ℕ
+totalBy d w m r t = onStore d t (retotalled t (getD m (reachedAddress w) 0) (getD r (digitX w) 0))

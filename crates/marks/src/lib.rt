@@ -1,8 +1,11 @@
-// Marks: which words and registers are hidden, and how an instruction moves that. A mark of 0 is open.
+// Marks: which words and registers are hidden, how an instruction moves that, and how many words are. A mark of 0 is
+// open.
 ghost use mathlib.Core.Path.{_≡_};
 ghost use mathlib.Core.Bool.{cond};
+ghost use Rattle.isa.specs.Word.{decodeWord};
 ghost use Rattle.marks.specs.Marks.{marked, marksOf, shown, joined, sameSources, shiftsOut, executedMarks, instructionMarks};
-ghost use Rattle.marks.specs.Forms.{oneMark, clearing, allMarks, moves, openedX};
+ghost use Rattle.marks.specs.Total.{hidden, hiddenCount};
+ghost use Rattle.marks.specs.Forms.{oneMark, clearing, allMarks, moves, openedX, retotalled, totalBy};
 use control::reached_address;
 use isa::Decoded;
 use isa::Instruction;
@@ -180,4 +183,73 @@ pub fn mark_instruction(
     let i = Instruction::from_word(word);
     let decoded = i.opcode();
     mark_decoded(decoded, word, memory, registers)
+}
+
+// How many totals there are.
+const TOTALS: u32 = 65536;
+
+// 1 for a mark that hides.
+fn one(mark: u8) -> u32
+    ensures { λ r. ⌜ r ≡ hidden marked mark ⌝ }
+{
+    if hides(mark) { 1 } else { 0 }
+}
+
+// How many of the marks hide. It is asked once, where a run begins.
+pub fn count_hidden(marks: &[u8]) -> usize
+    ensures { λ r. ⌜ r ≡ hiddenCount marked (now (marks .entry)) ⌝ }
+{
+    let mut total: usize = 0;
+    let mut i = 0;
+    while i < marks.len() {
+        let more = one(marks[i]);
+        total += more as usize;
+        i += 1;
+    }
+    total
+}
+
+// A total with one word's mark changed. It goes around at its end, where no count comes: a test for that would cost more
+// than all else here (docs/BENCHMARKS.md).
+fn retotal(total: u16, old: u8, new: u8) -> u16
+    ensures { λ r. ⌜ r ≡ retotalled total old new ⌝ }
+{
+    let more = one(new);
+    let less = one(old);
+    ((total as u32 + TOTALS + more - less) % TOTALS) as u16
+}
+
+// The total of hidden words after a whole instruction, from the marks before it, by the opcode that its word has.
+pub fn total_decoded(
+    decoded: Decoded,
+    word: u16,
+    total: u16,
+    memory: &[u8; MEMORY_WORDS],
+    registers: &[u8; REGISTER_COUNT],
+) -> u16
+    ensures { λ r. ⌜ r ≡ totalBy decoded word (now (memory .entry)) (now (registers .entry)) total ⌝ }
+{
+    let Decoded::Known(opcode) = decoded else {
+        return total;
+    };
+    let Opcode::StoreMemory = opcode else {
+        return total;
+    };
+    let x = (word / 256 % 16) as usize;
+    let at = reached_address(word) as usize;
+    retotal(total, memory[at], registers[x])
+}
+
+// The same of a word.
+pub fn total_instruction(
+    word: u16,
+    total: u16,
+    memory: &[u8; MEMORY_WORDS],
+    registers: &[u8; REGISTER_COUNT],
+) -> u16
+    ensures { λ r. ⌜ r ≡ totalBy (decodeWord word) word (now (memory .entry)) (now (registers .entry)) total ⌝ }
+{
+    let i = Instruction::from_word(word);
+    let decoded = i.opcode();
+    total_decoded(decoded, word, total, memory, registers)
 }

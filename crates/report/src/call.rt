@@ -45,6 +45,7 @@ pub fn report(
         &register_marks,
         &memory_marks,
         left.mdr,
+        run.hidden_total,
     );
     Reported::Written(n)
 }

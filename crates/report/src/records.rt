@@ -6,9 +6,9 @@ ghost use lib.ListN.{length};
 ghost use Rattle.encoding.specs.Bytes.{over, bigEndian};
 ghost use Rattle.isa.specs.Sizes.{textWidth};
 ghost use Rattle.marks.specs.Marks.{marked};
-ghost use Rattle.secret.specs.Widths.{headLength, valueLength, startLength, breakLength, traceLength, touchedLength};
+ghost use Rattle.secret.specs.Widths.{kindWidth, headLength, valueLength, startLength, breakLength, traceLength};
 ghost use Rattle.secret.specs.Widths.{controlLength, countsLength, endLength};
-ghost use Rattle.secret.specs.Report.{headRecord, shownText, valueRecord, startRecord, traceBytes, touchedRecord};
+ghost use Rattle.secret.specs.Report.{headRecord, shownText, valueRecord, startRecord, traceBytes};
 ghost use Rattle.control.specs.Codes.{faultWidth, faultBytes};
 ghost use Rattle.secret.specs.Report.{controlBytes, countBytes, endRecord};
 use crate::widths::BREAK_COUNT_AT;
@@ -99,13 +99,13 @@ pub(crate) fn put_byte(out: &mut [u8], at: usize, kind: u8, byte: u8)
     put_bytes(out, at, &bytes);
 }
 
-// Kind 07: an address.
-pub(crate) fn put_touched(out: &mut [u8], at: usize, address: Address)
-    requires { ⌜ at + touchedLength ≤ length (now out) ⌝ }
-    ensures { λ _. ⌜ now (out .exit) ≡ over (now (out .entry)) at (touchedRecord address) ⌝ }
+// Kinds 07 and 0A: a number in `width` bytes.
+pub(crate) fn put_numbered(out: &mut [u8], at: usize, kind: u8, width: usize, number: u64)
+    requires { ⌜ at + (kindWidth + width) ≤ length (now out) ⌝ }
+    ensures { λ _. ⌜ now (out .exit) ≡ over (now (out .entry)) at (kind ∷ bigEndian width number) ⌝ }
 {
-    put_number(out, at, KIND_WIDTH, 7);
-    put_number(out, at + KIND_WIDTH, ADDRESS_WIDTH, address as u64);
+    put_number(out, at, KIND_WIDTH, kind as u64);
+    put_number(out, at + KIND_WIDTH, width, number);
 }
 
 // Kind 04: number, address, phase, and the bytes of a text.

@@ -11,8 +11,8 @@ ghost use Rattle.secret.specs.Widths.{numberWidth, headLength, breakLength, tra
 ghost use Rattle.secret.specs.Report.{startRecords, breakRecord, touchedRecord, eachRecord, valueRecords};
 ghost use Rattle.secret.specs.Forms.{slotRecords};
 use crate::records::put_byte;
+use crate::records::put_numbered;
 use crate::records::put_start;
-use crate::records::put_touched;
 use crate::records::put_traced;
 use crate::records::put_value;
 use crate::widths::BREAK_LENGTH;
@@ -23,6 +23,7 @@ use crate::widths::START_LENGTH;
 use crate::widths::TOUCHED_LENGTH;
 use crate::widths::TRACE_LENGTH;
 use crate::widths::VALUE_WIDTH;
+use control::ADDRESS_WIDTH;
 use control::Address;
 use isa::MEMORY_WORDS;
 use isa::TEXT_WIDTH;
@@ -73,7 +74,13 @@ pub(crate) fn put_touches(out: &mut [u8], at: usize, list: &[Address])
 {
     let mut i = 0;
     while i < list.len() {
-        put_touched(out, at + TOUCHED_LENGTH * i, list[i]);
+        put_numbered(
+            out,
+            at + TOUCHED_LENGTH * i,
+            7,
+            ADDRESS_WIDTH,
+            list[i] as u64,
+        );
         i += 1;
     }
 }

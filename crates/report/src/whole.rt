@@ -7,13 +7,16 @@ ghost use Rattle.encoding.specs.Bytes.{over};
 ghost use Rattle.isa.specs.Sizes.{memoryWords, registerCount};
 ghost use Rattle.vm.specs.Calls.{viewOf};
 ghost use Rattle.marks.specs.Marks.{marked, marksOf};
-ghost use Rattle.secret.specs.Widths.{touchedLength, endLength, cellsLength, runRecordsAt, runLength};
-ghost use Rattle.secret.specs.Report.{indexBytes, addressBytes, touchedRecord, eachRecord, valueRecords, endRecord, endRecords, reportOn};
+ghost use Rattle.marks.specs.Total.{hiddenCount};
+ghost use Rattle.secret.specs.Widths.{touchedLength, lastLength, cellsLength, runRecordsAt, runLength};
+ghost use Rattle.secret.specs.Report.{indexBytes, addressBytes, touchedRecord, eachRecord, valueRecords, endRecord, hiddenRecord};
+ghost use Rattle.secret.specs.Report.{endRecords, reportOn};
 ghost use Rattle.guard.specs.Input.{inputFrom};
 ghost use Rattle.secret.specs.Forms.{Reportable, Writable, inputRecords, endFrom};
 ghost use Rattle.secret.specs.Outcome.{answeredLength, delivered};
 use crate::records::put_end;
 use crate::records::put_head;
+use crate::records::put_numbered;
 use crate::rows::put_breaks;
 use crate::rows::put_starts;
 use crate::rows::put_touches;
@@ -22,8 +25,10 @@ use crate::rows::put_values;
 use crate::widths::BREAK_LENGTH;
 use crate::widths::BREAK_RECORDS_AT;
 use crate::widths::CELLS_LENGTH;
+use crate::widths::COUNT_WIDTH;
 use crate::widths::END_LENGTH;
 use crate::widths::INDEX_WIDTH;
+use crate::widths::LAST_LENGTH;
 use crate::widths::REGISTERS_LENGTH;
 use crate::widths::TOUCHED_LENGTH;
 use crate::widths::TRACE_LENGTH;
@@ -75,7 +80,7 @@ fn put_cells(
     );
 }
 
-// Kinds 07 and 08.
+// Kinds 07, 08 and 0A.
 fn put_last(
     out: &mut [u8],
     at: usize,
@@ -84,23 +89,26 @@ fn put_last(
     state: State,
     counters: Counters,
     mark: u8,
+    hidden_total: u16,
 )
-    requires { ⌜ at + (touchedLength * length (now touched) + endLength) ≤ length (now out) ⌝ }
+    requires { ⌜ at + (touchedLength * length (now touched) + lastLength) ≤ length (now out) ⌝ }
     ensures { λ _. ⌜ now (out .exit)
-        ≡ over (now (out .entry)) at (eachRecord touchedRecord (now (touched .entry)) ++ endRecord marked stop state counters mark) ⌝ }
+        ≡ over (now (out .entry)) at
+        (eachRecord touchedRecord (now (touched .entry)) ++ (endRecord marked stop state counters mark ++ hiddenRecord «hidden_total»)) ⌝ }
 {
     put_touches(out, at, touched);
-    put_end(
+    let second = at + TOUCHED_LENGTH * touched.len();
+    put_end(out, second, stop, state, counters, mark);
+    put_numbered(
         out,
-        at + TOUCHED_LENGTH * touched.len(),
-        stop,
-        state,
-        counters,
-        mark,
+        second + END_LENGTH,
+        0x0A,
+        COUNT_WIDTH,
+        hidden_total as u64,
     );
 }
 
-// Kinds 04 to 08, from byte `at` on; what is answered is the place behind them.
+// Kinds 04 to 08 and 0A, from byte `at` on; what is answered is the place behind them.
 fn put_run(
     out: &mut [u8],
     at: usize,
@@ -109,9 +117,11 @@ fn put_run(
     register_marks: &[u8],
     memory_marks: &[u8],
     mark: u8,
+    hidden_total: u16,
 ) -> usize
     requires { ⌜ (at + runLength (machine .«trace_len») (machine .«touched_len») ≤ length (now out))
-        × (length (now «register_marks») ≡ registerCount) × (length (now «memory_marks») ≡ memoryWords) × Reportable machine ⌝ }
+        × (length (now «register_marks») ≡ registerCount) × (length (now «memory_marks») ≡ memoryWords) × Reportable machine
+        × («hidden_total» ≡ hiddenCount marked (now «memory_marks»)) ⌝ }
     ensures { λ r. ⌜ (r ≡ at + runLength (machine .«trace_len») (machine .«touched_len»))
         × (now (out .exit)
         ≡ over (now (out .entry)) at
@@ -138,8 +148,17 @@ fn put_run(
         memory_marks,
     );
     let third = second + CELLS_LENGTH;
-    put_last(out, third, &touched[..written], stop, state, counters, mark);
-    third + TOUCHED_LENGTH * written + END_LENGTH
+    put_last(
+        out,
+        third,
+        &touched[..written],
+        stop,
+        state,
+        counters,
+        mark,
+        hidden_total,
+    );
+    third + TOUCHED_LENGTH * written + LAST_LENGTH
 }
 
 // A report from byte 0 on, of an input and of what its run left; what is answered is its length.
@@ -154,8 +173,9 @@ pub(crate) fn write_report(
     register_marks: &[u8],
     memory_marks: &[u8],
     mark: u8,
+    hidden_total: u16,
 ) -> usize
-    requires { ⌜ Writable (now out) (now marks) (now breakpoints) (now «register_marks») (now «memory_marks») machine ⌝ }
+    requires { ⌜ Writable (now out) (now marks) (now breakpoints) (now «register_marks») (now «memory_marks») «hidden_total» machine ⌝ }
     ensures { λ r. ⌜ answeredLength r (now (out .exit))
         ≡ delivered
         (reportOn marked
@@ -166,5 +186,14 @@ pub(crate) fn write_report(
     let number = stop.number();
     put_input(out, image, marks, budget, breakpoints);
     let at = BREAK_RECORDS_AT + BREAK_LENGTH * breakpoints.len();
-    put_run(out, at, number, machine, register_marks, memory_marks, mark)
+    put_run(
+        out,
+        at,
+        number,
+        machine,
+        register_marks,
+        memory_marks,
+        mark,
+        hidden_total,
+    )
 }

@@ -10,7 +10,7 @@ use trace::TRACE_LIMIT;
 
 pub(crate) const KIND_WIDTH: usize = 1;
 
-// An image's length, a number of breakpoints.
+// An image's length, a number of breakpoints, a number of words.
 pub(crate) const COUNT_WIDTH: usize = 2;
 
 // A budget, a trace record's number, a count of the run.
@@ -30,7 +30,7 @@ pub(crate) const PHASE_WIDTH: usize = 1;
 
 pub(crate) const STOP_WIDTH: usize = 1;
 
-// Kinds 01 to 08, with where a field begins in its record.
+// Kinds 01 to 08 and 0A, with where a field begins in its record.
 pub(crate) const HEAD_LENGTH: usize = KIND_WIDTH + COUNT_WIDTH + NUMBER_WIDTH + COUNT_WIDTH;
 
 pub(crate) const BUDGET_AT: usize = KIND_WIDTH + COUNT_WIDTH;
@@ -61,6 +61,10 @@ pub(crate) const END_LENGTH: usize = KIND_WIDTH
     + COUNTS_LENGTH
     + FAULT_WIDTH;
 
+pub(crate) const HIDDEN_LENGTH: usize = KIND_WIDTH + COUNT_WIDTH;
+
+pub(crate) const LAST_LENGTH: usize = END_LENGTH + HIDDEN_LENGTH;
+
 // The parts of kind 08.
 pub(crate) const CONTROL_AT: usize = KIND_WIDTH + STOP_WIDTH;
 
@@ -86,13 +90,13 @@ pub(crate) const CELLS_LENGTH: usize = REGISTERS_LENGTH + WORDS_LENGTH;
 // Where kind 03 begins.
 pub(crate) const BREAK_RECORDS_AT: usize = HEAD_LENGTH + STARTS_LENGTH;
 
-// No report is longer: 33,930 bytes.
+// No report is longer: 33,933 bytes.
 pub const REPORT_LENGTH: usize = BREAK_RECORDS_AT
     + BREAK_LENGTH * BREAK_LIMIT
     + TRACE_LENGTH * TRACE_LIMIT
     + CELLS_LENGTH
     + TOUCHED_LENGTH * MEMORY_WORDS
-    + END_LENGTH;
+    + LAST_LENGTH;
 
 // So many bytes of the report program's input decide every answer (`first-decide`), 1,037: the longest that
 // is served has one less, and one more shows that an input is longer than its counts say.

@@ -9,20 +9,21 @@ use borrow.Author.Tests.{ltb-false, eqb-true, eqb-false, eq-eqb, not-false}
 use lib.Dec.{eqb, ltb}
 use lib.ListN.{length, getD, take, replicate, length-append, length-take, length-replicate}
 use lib.Seq.{getD-take}
+use Rattle.isa.specs.Sizes.{memoryWords}
 use Rattle.isa.proofs.Truths.{both}
 use Rattle.isa.proofs.Texts.{padded-at}
 use Rattle.vm.specs.Calls.{imageWords}
 use Rattle.marks.specs.Marks.{marked}
-use Rattle.guard.specs.Input.{Input, zeroOne, inputRefusal}
+use Rattle.guard.specs.Input.{Input, zeroOne, inputRefusal, breakLimit, budgetLimit}
 use Rattle.secret.proofs.Levels.{Joins}
 use Rattle.secret.specs.Widths.{reportLimit}
 use Rattle.secret.specs.Public.{reportRefusal}
 
 pub record Accepted (i : Input) : Type 0 where
-  pub short : length (i .image) ≤ 256
-  pub full : length (i .marks) ≡ 256
-  pub few : length (i .breaks) ≤ 256
-  pub allowed : i .budget ≤ 1000000
+  pub short : length (i .image) ≤ memoryWords
+  pub full : length (i .marks) ≡ memoryWords
+  pub few : length (i .breaks) ≤ breakLimit
+  pub allowed : i .budget ≤ budgetLimit
 
 -- a test that is passed, with a refusal on either side
 pub passed : (b : Bool) (n x : ℕ) → cond b (suc n) x ≡ 0 → (b ≡ false) × (x ≡ 0)
@@ -36,15 +37,15 @@ met false x n e = absurd (omega arith)
 pub input-accepted : (i : Input) → inputRefusal i ≡ 0 → Accepted i
 unfolding inputRefusal
 input-accepted i e =
-    let a = passed (ltb 256 (length (i .image))) 0 _ e in
-    let b = met (eqb (length (i .marks)) 256 && zeroOne (i .marks)) _ 1 (a .1) in
-    let c = passed (ltb 256 (length (i .breaks))) 2 _ (b .1) in
-    let d = passed (ltb 1000000 (i .budget)) 3 _ (c .1) in
+    let a = passed (ltb memoryWords (length (i .image))) 0 _ e in
+    let b = met (eqb (length (i .marks)) memoryWords && zeroOne (i .marks)) _ 1 (a .1) in
+    let c = passed (ltb breakLimit (length (i .breaks))) 2 _ (b .1) in
+    let d = passed (ltb budgetLimit (i .budget)) 3 _ (c .1) in
     record {
-      short = ltb-false 256 (length (i .image)) (a .0);
-      full = eqb-true (length (i .marks)) 256 (both (eqb (length (i .marks)) 256) (zeroOne (i .marks)) (b .0) .0);
-      few = ltb-false 256 (length (i .breaks)) (c .0);
-      allowed = ltb-false 1000000 (i .budget) (d .0);
+      short = ltb-false memoryWords (length (i .image)) (a .0);
+      full = eqb-true (length (i .marks)) memoryWords (both (eqb (length (i .marks)) memoryWords) (zeroOne (i .marks)) (b .0) .0);
+      few = ltb-false breakLimit (length (i .breaks)) (c .0);
+      allowed = ltb-false budgetLimit (i .budget) (d .0);
     }
 
 -- a report that is not refused is of an input that is not, in a buffer that holds every report
@@ -58,7 +59,7 @@ accepted i room e = go (eqb (inputRefusal i) 0) refl e
 
 -- ---- the starting words
 
-pub length-words : (image : List ℕ) → length (imageWords image) ≡ 256
+pub length-words : (image : List ℕ) → length (imageWords image) ≡ memoryWords
 unfolding imageWords
 length-words image = simp (length-append, length-take, length-replicate) (omega arith)
 
@@ -83,12 +84,12 @@ pub words-below : (image : List ℕ) → ((a : ℕ) → getD image a 0 < 65536) 
 unfolding imageWords
 words-below image h =
     let z : 0 < 65536 = omega arith in
-    append-below 65536 (take 256 image) (replicate (256 - length image) 0) (take-below 65536 256 image z h) (zeros-below 65536 (256 - length image) z)
+    append-below 65536 (take memoryWords image) (replicate (memoryWords - length image) 0) (take-below 65536 memoryWords image z h) (zeros-below 65536 (memoryWords - length image) z)
 
 -- the word at an address
-pub words-at : (image : List ℕ) (a : ℕ) → a < 256 → getD (imageWords image) a 0 ≡ getD image a 0
+pub words-at : (image : List ℕ) (a : ℕ) → a < memoryWords → getD (imageWords image) a 0 ≡ getD image a 0
 unfolding imageWords
-words-at image a h = padded-at (take 256 image) (256 - length image) a ∙ getD-take 256 image a 0 h
+words-at image a h = padded-at (take memoryWords image) (memoryWords - length image) a ∙ getD-take memoryWords image a 0 h
 
 -- ---- marks of 0 hide nothing, and all others hide
 

@@ -9,6 +9,7 @@ use borrow.Author.Tests.{ltb-true}
 use lib.Dec.{eqb, leb, ltb}
 use lib.ListN.{length, getD, drop, length-append, length-drop}
 use lib.Seq.{getD-drop}
+use Rattle.isa.specs.Sizes.{memoryWords, textWidth}
 use Rattle.isa.specs.declared.opcode.Opcode.the-variants.{LoadImmediate, LoadRegister, LoadMemory, StoreMemory, Add, Negate, ShiftRight, ShiftLeft, And, Or, Xor, Jump, Halt}
 use Rattle.isa.specs.declared.opcode.Decoded.{Decoded}
 use Rattle.isa.specs.declared.opcode.Decoded.the-variants.{Known, Unknown}
@@ -28,7 +29,7 @@ use Rattle.tick.specs.Tick.{decodeTick, decodeTo, nextPc, haltingTick, isHalt, 
 use Rattle.trace.specs.declared.records.TraceRecord.{TraceRecord}
 use Rattle.guard.specs.declared.stops.GuardedStop.{GuardedStop}
 use Rattle.guard.specs.declared.stops.GuardedStop.the-variants.{Halted, Breakpoint, Fault as Faulted, Budget, HiddenWord, HiddenJump}
-use Rattle.trace.specs.Trace.{pushed, liveTrace}
+use Rattle.trace.specs.Trace.{pushed, liveTrace, traceLimit}
 use Rattle.trace.specs.Touched.{noted, touchedBy, distinct}
 use Rattle.encoding.specs.Bytes.{member}
 use Rattle.vm.specs.Machine.{Machine, operandsOf, nextText, nextTick, microStep}
@@ -49,16 +50,16 @@ use Rattle.secret.proofs.Accepts.{append-below}
 pub record Fits (x : Text) : Type 0 where
   pub bytes : List ℕ
   pub made : x ≡ text bytes
-  pub few : length bytes ≤ 32
+  pub few : length bytes ≤ textWidth
 
 -- its live bytes fit
-pub live-fits : (x : Text) → Fits x → length (textOf x) ≤ 32
+pub live-fits : (x : Text) → Fits x → length (textOf x) ≤ textWidth
 live-fits x f = rw (f .made, textOf-text (f .bytes)) (f .few)
 
 -- the whole of its array is its live bytes, zero padded
-pub whole-array : (x : Text) → Fits x → padded 32 (textOf x) ≡ x .bytes
+pub whole-array : (x : Text) → Fits x → padded textWidth (textOf x) ≡ x .bytes
 unfolding text
-whole-array x f = rw (f .made) (ap (padded 32) (textOf-text (f .bytes)))
+whole-array x f = rw (f .made) (ap (padded textWidth) (textOf-text (f .bytes)))
 
 none-fits : Fits (text [])
 none-fits = record { bytes = []; made = refl; few = omega arith }
@@ -73,25 +74,25 @@ snoc-fits [] r h f (suc i) = none-fits
 snoc-fits (x ∷ t) r h f zero = h 0
 snoc-fits (x ∷ t) r h f (suc i) = snoc-fits t r (λ j. h (suc j)) f i
 
-pushed-fits : (t : List TraceRecord) (r : TraceRecord) → length t ≤ 512 → AllFit t → Fits (r .text) → (length (pushed r t) ≤ 512) × AllFit (pushed r t)
+pushed-fits : (t : List TraceRecord) (r : TraceRecord) → length t ≤ traceLimit → AllFit t → Fits (r .text) → (length (pushed r t) ≤ traceLimit) × AllFit (pushed r t)
 unfolding pushed
-pushed-fits t r n h f = at (ltb (length t) 512) refl
+pushed-fits t r n h f = at (ltb (length t) traceLimit) refl
   where
-    at : (b : Bool) → ltb (length t) 512 ≡ b → (length (cond b t (drop 1 t) ++ (r ∷ [])) ≤ 512) × AllFit (cond b t (drop 1 t) ++ (r ∷ []))
-    at true e = let l = ltb-true (length t) 512 e in (simp length-append (omega arith), snoc-fits t r h f)
+    at : (b : Bool) → ltb (length t) traceLimit ≡ b → (length (cond b t (drop 1 t) ++ (r ∷ [])) ≤ traceLimit) × AllFit (cond b t (drop 1 t) ++ (r ∷ []))
+    at true e = let l = ltb-true (length t) traceLimit e in (simp length-append (omega arith), snoc-fits t r h f)
     at false e =
         (simp (length-append, length-drop) (omega arith), snoc-fits (drop 1 t) r (λ i. rw (getD-drop 1 t i noRecord) (h (1 + i))) f)
 
 -- ---- the touched addresses
 
 abbrev AllBytes : List ℕ → Type 0
-AllBytes l = (i : ℕ) → getD l i 0 < 256
+AllBytes l = (i : ℕ) → getD l i 0 < memoryWords
 
 -- the address of a bus write is one
 abbrev BusFits : BusTransfer → Type 0
 BusFits Idle = Unit {0}
 BusFits (Read a v) = Unit {0}
-BusFits (Write a v) = a < 256
+BusFits (Write a v) = a < memoryWords
 
 noted-differ : (a : ℕ) (l : List ℕ) → distinct l ≡ true → distinct (noted a l) ≡ true
 unfolding noted
@@ -101,17 +102,17 @@ noted-differ a l d = at (member a l) refl
     at true e = d
     at false e = distinct-snoc a l d e
 
-single-below : (a : ℕ) → a < 256 → AllBytes (a ∷ [])
+single-below : (a : ℕ) → a < memoryWords → AllBytes (a ∷ [])
 single-below a h zero = h
 single-below a h (suc i) = omega arith
 
-noted-below : (a : ℕ) (l : List ℕ) → a < 256 → AllBytes l → AllBytes (noted a l)
+noted-below : (a : ℕ) (l : List ℕ) → a < memoryWords → AllBytes l → AllBytes (noted a l)
 unfolding noted
 noted-below a l h k = at (member a l)
   where
     at : (b : Bool) → AllBytes (cond b l (l ++ (a ∷ [])))
     at true = k
-    at false = append-below 256 l (a ∷ []) k (single-below a h)
+    at false = append-below memoryWords l (a ∷ []) k (single-below a h)
 
 touched-fits : (b : BusTransfer) (l : List ℕ) → BusFits b → distinct l ≡ true → AllBytes l → (distinct (touchedBy b l) ≡ true) × AllBytes (touchedBy b l)
 touched-fits Idle l h d k = (d, k)
@@ -122,7 +123,7 @@ touched-fits (Write a v) l h d k = (noted-differ a l d, noted-below a l h k)
 
 pub record Addresses (c : Control) : Type 0 where
   pub pc : c .pc < 256
-  pub mar : c .mar < 256
+  pub mar : c .mar < memoryWords
 
 record TickFits (t : Tick) : Type 0 where
   control : Addresses (t .state .control)
@@ -191,7 +192,7 @@ tick-fits (suc (suc (suc (suc n)))) s o a = let d = decodeWord (s .control .ir) 
 
 pub record Bounded (m : Machine) : Type 0 where
   pub control : Addresses (m .state .control)
-  pub trace : length (m .trace) ≤ 512
+  pub trace : length (m .trace) ≤ traceLimit
   pub texts : AllFit (m .trace)
   pub differ : distinct (m .touched) ≡ true
   pub touched : AllBytes (m .touched)
@@ -271,5 +272,5 @@ module _ (hid : ℕ → Bool) where
   guarded-bounded i = run-bounded (i .breaks) 0 (i .budget) (guardedStart (i .image) (i .marks)) (start-bounded (i .image) (i .marks))
 
 -- at most 256 addresses are different
-pub touched-few : (m : Machine) → Bounded m → length (m .touched) ≤ 256
-touched-few m b = few 256 (m .touched) (b .differ) (below-of 256 (m .touched) (λ i l. b .touched i))
+pub touched-few : (m : Machine) → Bounded m → length (m .touched) ≤ memoryWords
+touched-few m b = few memoryWords (m .touched) (b .differ) (below-of memoryWords (m .touched) (λ i l. b .touched i))

@@ -7,12 +7,13 @@ use mathlib.Core.List.{List, _++_}
 use borrow.Author.Tests.{leb-true, eq-eqb, ne-eqb, lt-ltb, le-ltb}
 use lib.Dec.{leb}
 use lib.ListN.{length, getD}
+use Rattle.isa.specs.Sizes.{memoryWords, textWidth}
 use Rattle.encoding.proofs.Written.{take-over}
 use Rattle.isa.specs.Text.{padded, textOf}
 use Rattle.control.specs.Lawful.{lawful}
 use Rattle.isa.proofs.Truths.{both}
 use Rattle.vm.specs.declared.machine.Machine.{Machine as Code}
-use Rattle.trace.specs.Trace.{liveLengths, shortTexts}
+use Rattle.trace.specs.Trace.{liveLengths, shortTexts, traceLimit}
 use Rattle.vm.specs.Refusal.{partsOk}
 use Rattle.vm.specs.Calls.{viewOf, isMachine, imageWords}
 use Rattle.vm.specs.Machine.{Machine}
@@ -32,20 +33,20 @@ use Rattle.secret.proofs.Bounds.{guarded-bounded, whole-array}
 -- ---- the machine that a guarded run leaves is one of which a report can be written
 
 module _ (m : Code) (ok : isMachine m ≡ true) where
-  counts-fit : (m .«trace_len» ≤ 512) × (m .«touched_len» ≤ 256)
+  counts-fit : (m .«trace_len» ≤ traceLimit) × (m .«touched_len» ≤ memoryWords)
   unfolding partsOk
   counts-fit =
       let a = both (lawful (m .state .control)) _ ok .1 in
-      let b = both (leb (m .«image_len») 256) _ a .1 in
-      let c = both (leb (m .«trace_len») 512) _ b in
+      let b = both (leb (m .«image_len») memoryWords) _ a .1 in
+      let c = both (leb (m .«trace_len») traceLimit) _ b in
       let d = both (shortTexts (liveLengths (m .«trace_start») (m .«trace_len») (m .lengths))) _ (c .1) .1 in
-      (leb-true (m .«trace_len») 512 (c .0), leb-true (m .«touched_len») 256 (both (leb (m .«touched_len») 256) _ d .0))
+      (leb-true (m .«trace_len») traceLimit (c .0), leb-true (m .«touched_len») memoryWords (both (leb (m .«touched_len») memoryWords) _ d .0))
 
   pub reportable : (i : Input) → viewOf m ≡ guardedOf marked i .guarded .machine → Reportable m
   reportable i e = record {
     trace = counts-fit .0;
     touched = counts-fit .1;
-    texts = λ j. subst (λ (x : Machine). padded 32 (textOf (getD (x .trace) j noRecord .text)) ≡ getD (x .trace) j noRecord .text .bytes) (sym e) (whole-array _ (guarded-bounded marked i .texts j));
+    texts = λ j. subst (λ (x : Machine). padded textWidth (textOf (getD (x .trace) j noRecord .text)) ≡ getD (x .trace) j noRecord .text .bytes) (sym e) (whole-array _ (guarded-bounded marked i .texts j));
   }
 
 -- ---- the answer

@@ -1,4 +1,4 @@
--- The records of how a run ended, kinds 04 to 08: two ends that no mark tells apart have the same; and so start two runs of the same public input.
+-- The records of how a run ended, kinds 04 to 08 and 0A: two ends that no mark tells apart have the same; and so start two runs of the same public input.
 -- Assumes nothing.
 use Prim.Native.Nat.{ℕ, _<_}
 use native.Mathlib.Omega.{arith}
@@ -9,12 +9,13 @@ use lib.ListN.{length, getD, replicate}
 use Rattle.isa.specs.Sizes.{memoryWords, registerCount}
 use Rattle.vm.specs.Calls.{restarted, imageWords}
 use Rattle.marks.specs.Marks.{Marks, shown}
+use Rattle.marks.specs.Total.{hiddenCount}
 use Rattle.vm.specs.Guard.{GuardedEnd, guardedStart}
 use Rattle.guard.specs.Stops.{stopNumber}
 use Rattle.vm.proofs.Steps.{Public, publicOf}
 use Rattle.secret.proofs.Levels.{Twin, Twins, Level, LevelEnd}
 use Rattle.control.specs.Codes.{faultBytes}
-use Rattle.secret.specs.Report.{traceRecords, indexBytes, addressBytes, touchedRecord, eachRecord, controlBytes, countBytes, valueRecord, startRecord, startRecords, valueRecords, endRecord, endRecords, endBytes}
+use Rattle.secret.specs.Report.{traceRecords, indexBytes, addressBytes, touchedRecord, eachRecord, controlBytes, countBytes, valueRecord, startRecord, startRecords, valueRecords, endRecord, hiddenRecord, endRecords, endBytes}
 use Rattle.secret.proofs.Twins.{twin-refl, twins-get, twins-of}
 use Rattle.secret.proofs.Cut.{each-same}
 use Rattle.secret.proofs.Shows.{shown-same, value-same, start-same}
@@ -36,7 +37,7 @@ module _ (hid : ℕ → Bool) where
       traceRecords (p .trace)
       ++ (valueRecords hid 5 indexBytes registerCount registers (k .registers)
       ++ (valueRecords hid 6 addressBytes memoryWords memory (k .memory)
-      ++ (eachRecord touchedRecord (p .touched) ++ endParts stop p mdr (k .mdr))))
+      ++ (eachRecord touchedRecord (p .touched) ++ (endParts stop p mdr (k .mdr) ++ hiddenRecord (hiddenCount hid (k .memory))))))
 
   abbrev partsOf : GuardedEnd → List ℕ
   partsOf e = let m = e .guarded .machine in allParts (stopNumber (e .stop)) (publicOf m) (m .memory) (m .registers) (m .state .control .mdr) (e .guarded .marks)
@@ -68,9 +69,9 @@ module _ (hid : ℕ → Bool) where
   -- ---- the starts
 
   -- the words of two images under the marks k
-  pub starts-same : (v w k : List ℕ) → ((a : ℕ) → a < 256 → Twin hid (getD k a 0) (getD v a 0) (getD w a 0)) → startRecords hid v k ≡ startRecords hid w k
+  pub starts-same : (v w k : List ℕ) → ((a : ℕ) → a < memoryWords → Twin hid (getD k a 0) (getD v a 0) (getD w a 0)) → startRecords hid v k ≡ startRecords hid w k
   unfolding startRecords
-  starts-same v w k t = each-same (λ a. startRecord hid a (getD k a 0) (getD v a 0)) (λ a. startRecord hid a (getD k a 0) (getD w a 0)) 0 256 (λ a l. start-same hid a (t a (omega arith)))
+  starts-same v w k t = each-same (λ a. startRecord hid a (getD k a 0) (getD v a 0)) (λ a. startRecord hid a (getD k a 0) (getD w a 0)) 0 memoryWords (λ a l. start-same hid a (t a (omega arith)))
 
   pub start-level : (x y k : List ℕ) → length (imageWords x) ≡ length k → length (imageWords y) ≡ length k
       → ((a : ℕ) → a < length k → Twin hid (getD k a 0) (getD (imageWords x) a 0) (getD (imageWords y) a 0)) → Level hid (guardedStart x k) (guardedStart y k)
@@ -79,7 +80,7 @@ module _ (hid : ℕ → Bool) where
     public = refl;
     marks = refl;
     memory = twins-of k (imageWords x) (imageWords y) lx ly t;
-    registers = twins-same (replicate 16 0) (replicate 16 0) refl;
+    registers = twins-same (replicate registerCount 0) (replicate registerCount 0) refl;
     mdr = twin-refl;
   }
 

@@ -1,4 +1,4 @@
--- Examples 14 and 15 of document 01, section 9.
+-- Examples 14 and 15 of document 01, section 9, with the record of document 02, Change 6.
 -- Assumes nothing.
 use mathlib.Core.Path.{_≡_, refl, _∙_}
 use mathlib.Core.List.{List, [], _∷_}
@@ -14,35 +14,34 @@ use Rattle.vm.specs.Machine.{microStep}
 use Rattle.vm.specs.Instruction.{ticked, steps, stepInstruction}
 use Rattle.vm.specs.Calls.{restarted, imageWords}
 use Rattle.marks.specs.Marks.{marked, shown, instructionMarks}
+use Rattle.marks.specs.Total.{hiddenCount}
 use Rattle.vm.specs.Guard.{guardedStart, guardedRun, guardedOf}
 use Rattle.guard.specs.Input.{Input, zeroOne, inputRefusal}
-use Rattle.guard.specs.Stops.{stopNumber}
 use Rattle.control.specs.Codes.{faultBytes}
-use Rattle.secret.specs.Report.{endRecord, controlBytes, countBytes, reportBytes}
+use Rattle.secret.specs.Report.{endRecord, hiddenRecord, controlBytes, countBytes, reportBytes}
 use Rattle.secret.specs.Widths.{reportLimit}
 use Rattle.secret.specs.Public.{reportRefusal}
-use Rattle.secret.proofs.Lengths.{length-report, last-record}
+use Rattle.secret.proofs.Lengths.{length-report, lastRecords, last-records}
 
 -- an empty image, no marks
 abbrev empty : ℕ → Input
 empty budget = record { image = []; marks = replicate 256 0; budget = budget; breaks = [] }
 
-pub example-14 : length (reportBytes marked (empty 1)) ≡ 11062
+pub example-14 : length (reportBytes marked (empty 1)) ≡ 11065
 unfolding guardedOf guardedRun guardedStart restarted imageWords stepInstruction steps ticked microStep tickOf decodeTick countTick pushed liveTrace digits decodeNibble
 example-14 = length-report marked (empty 1)
 
--- 08 02 01 0000 00 00 0000, counts 0, 4, 1, 0, then 01 0000 00
+-- 08 02 01 0000 00 00 0000, counts 0, 4, 1, 0, then 01 0000 00; behind them 0A 0000
 abbrev lastBytes : List ℕ
-lastBytes = 8 ∷ 2 ∷ 1 ∷ 0 ∷ 0 ∷ 0 ∷ 0 ∷ 0 ∷ 0 ∷ 0 ∷ 0 ∷ 0 ∷ 0 ∷ 0 ∷ 0 ∷ 0 ∷ 0 ∷ 0 ∷ 0 ∷ 0 ∷ 0 ∷ 0 ∷ 0 ∷ 0 ∷ 4 ∷ 0 ∷ 0 ∷ 0 ∷ 0 ∷ 0 ∷ 0 ∷ 0 ∷ 1 ∷ 0 ∷ 0 ∷ 0 ∷ 0 ∷ 0 ∷ 0 ∷ 0 ∷ 0 ∷ 1 ∷ 0 ∷ 0 ∷ 0 ∷ []
+lastBytes = 8 ∷ 2 ∷ 1 ∷ 0 ∷ 0 ∷ 0 ∷ 0 ∷ 0 ∷ 0 ∷ 0 ∷ 0 ∷ 0 ∷ 0 ∷ 0 ∷ 0 ∷ 0 ∷ 0 ∷ 0 ∷ 0 ∷ 0 ∷ 0 ∷ 0 ∷ 0 ∷ 0 ∷ 4 ∷ 0 ∷ 0 ∷ 0 ∷ 0 ∷ 0 ∷ 0 ∷ 0 ∷ 1 ∷ 0 ∷ 0 ∷ 0 ∷ 0 ∷ 0 ∷ 0 ∷ 0 ∷ 0 ∷ 1 ∷ 0 ∷ 0 ∷ 0 ∷ 0x0A ∷ 0 ∷ 0 ∷ []
 
-record-14 : (let e = guardedOf marked (empty 1) in
-    endRecord marked (stopNumber (e .stop)) (e .guarded .machine .state) (e .guarded .machine .counters) (e .guarded .marks .mdr) ≡ lastBytes)
-unfolding guardedOf guardedRun guardedStart restarted imageWords stepInstruction steps ticked microStep tickOf decodeTick countTick digits decodeNibble instructionMarks endRecord controlBytes countBytes faultBytes shown bigEndian
-record-14 = refl
+records-14 : lastRecords marked (guardedOf marked (empty 1)) ≡ lastBytes
+unfolding guardedOf guardedRun guardedStart restarted imageWords stepInstruction steps ticked microStep tickOf decodeTick countTick digits decodeNibble instructionMarks endRecord hiddenRecord hiddenCount controlBytes countBytes faultBytes shown bigEndian
+records-14 = refl
 
--- the last 45 bytes of the report
+-- the last 48 bytes of the report
 pub example-14-end : drop 11017 (reportBytes marked (empty 1)) ≡ lastBytes
-example-14-end = last-record marked (empty 1) 11017 (omega (arith, example-14)) ∙ record-14
+example-14-end = last-records marked (empty 1) 11017 (omega (arith, example-14)) ∙ records-14
 
 pub example-15 : (reportRefusal (empty 1000000) reportLimit ≡ 0) × (reportRefusal (empty 1000001) reportLimit ≡ 4)
 unfolding reportRefusal inputRefusal zeroOne

@@ -7,26 +7,27 @@ use mathlib.Core.Bool.{Bool}
 use mathlib.Core.List.{List, [], _++_}
 use lib.ListN.{length, getD}
 use lib.Seq.{ext-getD}
+use Rattle.guard.specs.Input.{breakLimit, budgetLimit}
 use Rattle.encoding.specs.Bytes.{bigEndian, eachFrom}
 use Rattle.marks.specs.Marks.{shown}
 use Rattle.isa.specs.Sizes.{memoryWords}
-use Rattle.secret.specs.Widths.{breakLength, startLength}
+use Rattle.secret.specs.Widths.{breakLength, startLength, countWidth, numberWidth}
 use Rattle.secret.specs.Report.{headRecord, breakRecord, eachRecord, startRecord, startRecords}
 use Rattle.secret.proofs.Cut.{append-cut, number-cut, row-cut}
 use Rattle.secret.proofs.Shows.{length-head, length-start, start-cut}
 
-head-numbers : {a b c d e f : ℕ} → a ≤ 256 → d ≤ 256 → b ≤ 1000000 → e ≤ 1000000 → c ≤ 256 → f ≤ 256 → headRecord a b c ≡ headRecord d e f
+head-numbers : {a b c d e f : ℕ} → a ≤ memoryWords → d ≤ memoryWords → b ≤ budgetLimit → e ≤ budgetLimit → c ≤ breakLimit → f ≤ breakLimit → headRecord a b c ≡ headRecord d e f
     → (a ≡ d) × (b ≡ e) × (c ≡ f)
 unfolding headRecord
 head-numbers {a} {b} {c} {d} {e} {f} ha hd hb he hc hf p =
-    let q : bigEndian 2 a ++ (bigEndian 8 b ++ bigEndian 2 c) ≡ bigEndian 2 d ++ (bigEndian 8 e ++ bigEndian 2 f) = cc in
-    let r = number-cut 2 a d (omega arith) (omega arith) q in
-    let s = number-cut 8 b e (omega arith) (omega arith) (r .1) in
-    let t = number-cut 2 c f {c = []} {d = []} (omega arith) (omega arith) (ap (λ (l : List ℕ). l ++ []) (s .1)) in
+    let q : bigEndian countWidth a ++ (bigEndian numberWidth b ++ bigEndian countWidth c) ≡ bigEndian countWidth d ++ (bigEndian numberWidth e ++ bigEndian countWidth f) = cc in
+    let r = number-cut countWidth a d (omega arith) (omega arith) q in
+    let s = number-cut numberWidth b e (omega arith) (omega arith) (r .1) in
+    let t = number-cut countWidth c f {c = []} {d = []} (omega arith) (omega arith) (ap (λ (l : List ℕ). l ++ []) (s .1)) in
     (r .0, s .0, t .0)
 
 -- the head
-pub head-cut : {a b c d e f : ℕ} {x y : List ℕ} → a ≤ 256 → d ≤ 256 → b ≤ 1000000 → e ≤ 1000000 → c ≤ 256 → f ≤ 256 → headRecord a b c ++ x ≡ headRecord d e f ++ y
+pub head-cut : {a b c d e f : ℕ} {x y : List ℕ} → a ≤ memoryWords → d ≤ memoryWords → b ≤ budgetLimit → e ≤ budgetLimit → c ≤ breakLimit → f ≤ breakLimit → headRecord a b c ++ x ≡ headRecord d e f ++ y
     → ((a ≡ d) × (b ≡ e) × (c ≡ f)) × (x ≡ y)
 head-cut {a} {b} {c} {d} {e} {f} ha hd hb he hc hf p =
     let q = append-cut (headRecord a b c) (headRecord d e f) (length-head a b c ∙ sym (length-head d e f)) p in

@@ -1,4 +1,4 @@
--- The length of a report (01, section 6): a function of the numbers of breakpoints, trace records and touched addresses. No accepted one is over `reportLimit`, 33,930 bytes.
+-- The length of a report (01, section 6): a function of the numbers of breakpoints, trace records and touched addresses. No accepted one is over `reportLimit`, 33,933 bytes.
 -- Assumes nothing.
 use Prim.Native.Nat.{ℕ, _+_, _*_, _≤_, _<_}
 use native.Mathlib.Omega.{arith}
@@ -18,16 +18,17 @@ use Rattle.trace.specs.declared.records.TraceRecord.{TraceRecord}
 use Rattle.vm.specs.Calls.{imageWords}
 use Rattle.vm.specs.Machine.{Machine}
 use Rattle.marks.specs.Marks.{Marks}
-use Rattle.vm.specs.Guard.{guardedOf}
+use Rattle.marks.specs.Total.{hiddenCount}
+use Rattle.vm.specs.Guard.{GuardedEnd, guardedOf}
 use Rattle.guard.specs.Input.{Input, breakLimit}
 use Rattle.guard.specs.Stops.{stopNumber}
 use Rattle.trace.specs.Trace.{traceLimit, addressesAt, phasesAt, columnsLength}
 use Rattle.isa.specs.Sizes.{memoryWords, registerCount, textWidth}
 use Rattle.control.specs.Codes.{faultBytes}
-use Rattle.secret.specs.Report.{headRecord, startRecord, startRecords, indexBytes, addressBytes, breakRecord, touchedRecord, eachRecord, traceBytes, traceRecord, noRecord, traceRecords, valueRecord, valueRecords, countBytes, controlBytes, endRecord, endRecords, endBytes, reportOn, reportBytes}
+use Rattle.secret.specs.Report.{headRecord, startRecord, startRecords, indexBytes, addressBytes, breakRecord, touchedRecord, eachRecord, traceBytes, traceRecord, noRecord, traceRecords, valueRecord, valueRecords, countBytes, controlBytes, endRecord, hiddenRecord, endRecords, endBytes, reportOn, reportBytes}
 use Rattle.secret.specs.Forms.{slotBytes}
 use Rattle.control.specs.Address.{addressWidth}
-use Rattle.secret.specs.Widths.{indexWidth, startLength, breakLength, traceLength, valueLength, touchedLength, endLength, startsLength, runLength, reportLength, reportLimit}
+use Rattle.secret.specs.Widths.{indexWidth, startLength, breakLength, traceLength, valueLength, touchedLength, endLength, hiddenLength, lastLength, startsLength, runLength, reportLength, reportLimit}
 use Rattle.secret.specs.Public.{reportRefusal}
 use Rattle.secret.proofs.Accepts.{accepted}
 use Rattle.secret.proofs.Bounds.{live-fits, guarded-bounded, touched-few}
@@ -55,6 +56,10 @@ length-slot k i j e h =
 pub length-end : (hid : ℕ → Bool) (stop : ℕ) (s : State) (k : Counters) (mark : ℕ) → length (endRecord hid stop s k mark) ≡ endLength
 unfolding endRecord controlBytes countBytes faultBytes bigEndian
 length-end hid stop s k mark = refl
+
+pub length-hidden : (n : ℕ) → length (hiddenRecord n) ≡ hiddenLength
+unfolding hiddenRecord
+length-hidden n = simp length-bigEndian
 
 -- ---- the rows
 
@@ -97,6 +102,7 @@ module _ (hid : ℕ → Bool) where
     length-values hid 6 addressWidth memoryWords (m .memory) (k .memory),
     length-touches (m .touched),
     length-end hid stop (m .state) (m .counters) (k .mdr),
+    length-hidden (hiddenCount hid (k .memory)),
   )
 
   length-with : (i : Input) → TextsFit (guardedOf hid i .guarded .machine .trace)
@@ -117,15 +123,24 @@ module _ (hid : ℕ → Bool) where
       → length (reportBytes hid i) ≡ reportLength (length (i .breaks)) (length (guardedOf hid i .guarded .machine .trace)) (length (guardedOf hid i .guarded .machine .touched))
   length-report i = length-with i (λ n. live-fits _ (guarded-bounded hid i .texts n))
 
-  -- its last record is that of the run's end
-  pub last-record : (i : Input) (n : ℕ) → n + endLength ≡ length (reportBytes hid i)
-      → (let e = guardedOf hid i in drop n (reportBytes hid i) ≡ endRecord hid (stopNumber (e .stop)) (e .guarded .machine .state) (e .guarded .machine .counters) (e .guarded .marks .mdr))
+  -- its last two records: that of the run's end, and how many words are hidden there
+  abbrev pub lastRecords : GuardedEnd → List ℕ
+  lastRecords e =
+      let k = e .guarded .marks in
+      endRecord hid (stopNumber (e .stop)) (e .guarded .machine .state) (e .guarded .machine .counters) (k .mdr) ++ hiddenRecord (hiddenCount hid (k .memory))
+
+  length-last-records : (e : GuardedEnd) → length (lastRecords e) ≡ lastLength
+  length-last-records e =
+      let k = e .guarded .marks in
+      simp (length-append, length-end hid (stopNumber (e .stop)) (e .guarded .machine .state) (e .guarded .machine .counters) (k .mdr), length-hidden (hiddenCount hid (k .memory)))
+
+  pub last-records : (i : Input) (n : ℕ) → n + lastLength ≡ length (reportBytes hid i) → drop n (reportBytes hid i) ≡ lastRecords (guardedOf hid i)
   unfolding reportBytes reportOn endBytes endRecords
-  last-record i n h =
+  last-records i n h =
       let e = guardedOf hid i in
       let m = e .guarded .machine in
       let k = e .guarded .marks in
-      let last = endRecord hid (stopNumber (e .stop)) (m .state) (m .counters) (k .mdr) in
+      let last = lastRecords e in
       let front =
       headRecord (length (i .image)) (i .budget) (length (i .breaks))
       ++ (startRecords hid (imageWords (i .image)) (i .marks)
@@ -134,7 +149,7 @@ module _ (hid : ℕ → Bool) where
       ++ (valueRecords hid 5 indexBytes registerCount (m .registers) (k .registers)
       ++ (valueRecords hid 6 addressBytes memoryWords (m .memory) (k .memory) ++ eachRecord touchedRecord (m .touched)))))) in
       let parts : front ++ last ≡ reportBytes hid i = simp append-assoc in
-      let size : length front + endLength ≡ length (reportBytes hid i) = sym (ap (λ (x : ℕ). length front + x) (length-end hid (stopNumber (e .stop)) (m .state) (m .counters) (k .mdr))) ∙ sym (length-append front last) ∙ ap length parts in
+      let size : length front + lastLength ≡ length (reportBytes hid i) = sym (ap (λ (x : ℕ). length front + x) (length-last-records e)) ∙ sym (length-append front last) ∙ ap length parts in
       ap (drop n) (sym parts) ∙ drop-at front last n (omega arith)
 
 -- none is empty
@@ -142,7 +157,7 @@ pub report-some : (hid : ℕ → Bool) (i : Input) → 0 < length (reportBytes h
 report-some hid i = rw (length-report hid i) (omega arith)
 
 -- the limit as a number
-pub limit-number : reportLimit ≡ 33930
+pub limit-number : reportLimit ≡ 33933
 limit-number = refl
 
 -- no larger length comes of numbers that are not larger

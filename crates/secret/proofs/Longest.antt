@@ -1,4 +1,4 @@
--- One report has exactly 33,930 bytes (01, section 1, number 5): that of a program that writes to every address.
+-- One report has exactly 33,933 bytes (01, section 1, number 5): that of a program that writes to every address.
 -- Assumes nothing.
 use Prim.Native.Nat.{ℕ, zero, suc, _+_}
 use mathlib.Core.Path.{_≡_, refl}

@@ -9,12 +9,13 @@ use borrow.Author.Tests.{ltb-false, eqb-true, eq-eqb, le-leb}
 use lib.Dec.{eqb, ltb}
 use lib.ListN.{length, take, drop, getD, length-drop}
 use lib.Seq.{length-take-le, getD-drop}
+use Rattle.isa.specs.Sizes.{memoryWords}
 use Rattle.encoding.specs.Bytes.{within, numbers, readNumber, readWords}
 use Rattle.encoding.proofs.Written.{take-over}
 use Rattle.encoding.proofs.Numbers.{length-numbers, numbers-below}
 use Rattle.history.proofs.Parts.{words-inside}
 use Rattle.marks.specs.Marks.{marked}
-use Rattle.guard.specs.Input.{inputFrom, zeroOne, inputRefusal}
+use Rattle.guard.specs.Input.{inputFrom, zeroOne, inputRefusal, breakLimit, budgetLimit}
 use Rattle.secret.specs.declared.Reported.the-variants.{Written, Refused}
 use Rattle.secret.specs.Report.{reportBytes}
 use Rattle.secret.specs.Widths.{reportLimit}
@@ -30,26 +31,26 @@ use Rattle.secret.proofs.Lengths.{report-fits, report-some}
 
 -- all are passed
 pub record Passed (words : ℕ) (bad : Bool) (count budget room : ℕ) (whole : Bool) : Type 0 where
-  pub short : words ≤ 256
+  pub short : words ≤ memoryWords
   pub good : bad ≡ false
-  pub few : count ≤ 256
-  pub allowed : budget ≤ 1000000
+  pub few : count ≤ breakLimit
+  pub allowed : budget ≤ budgetLimit
   pub roomy : reportLimit ≤ room
   pub ends : whole ≡ true
 
 pub all-passed : (words : ℕ) (bad : Bool) (count budget room : ℕ) (whole : Bool) → firstRefusal words bad count budget room whole ≡ 0 → Passed words bad count budget room whole
 unfolding firstRefusal
 all-passed words bad count budget room whole e =
-    let a = passed (ltb 256 words) 0 _ e in
+    let a = passed (ltb memoryWords words) 0 _ e in
     let b = passed bad 1 _ (a .1) in
-    let c = passed (ltb 256 count) 2 _ (b .1) in
-    let d = passed (ltb 1000000 budget) 3 _ (c .1) in
+    let c = passed (ltb breakLimit count) 2 _ (b .1) in
+    let d = passed (ltb budgetLimit budget) 3 _ (c .1) in
     let f = passed (ltb room reportLimit) 4 _ (d .1) in
     record {
-      short = ltb-false 256 words (a .0);
+      short = ltb-false memoryWords words (a .0);
       good = b .0;
-      few = ltb-false 256 count (c .0);
-      allowed = ltb-false 1000000 budget (d .0);
+      few = ltb-false breakLimit count (c .0);
+      allowed = ltb-false budgetLimit budget (d .0);
       roomy = ltb-false room reportLimit (f .0);
       ends = met whole 0 5 (f .1) .0;
     }
@@ -83,11 +84,11 @@ unfolding bytesRefusal firstRefusal reportRefusal inputRefusal inputOf
 whole-refusal b room l =
     let n = imageLength b in
     let k = breakCount b in
-    let w : within b (marksAt n) 256 ≡ true = le-leb (marksAt n + 256) (length b) (omega arith) in
+    let w : within b (marksAt n) memoryWords ≡ true = le-leb (marksAt n + memoryWords) (length b) (omega arith) in
     let i : length (numbers 2 n (drop 2 b)) ≡ n = length-numbers 2 n (drop 2 b) in
-    let m : length (take 256 (drop (marksAt n) b)) ≡ 256 = length-take-le 256 (drop (marksAt n) b) (rw length-drop (omega arith)) in
+    let m : length (take memoryWords (drop (marksAt n) b)) ≡ memoryWords = length-take-le memoryWords (drop (marksAt n) b) (rw length-drop (omega arith)) in
     let s : length (take k (drop (breaksAt n) b)) ≡ k = length-take-le k (drop (breaksAt n) b) (rw length-drop (omega arith)) in
-    rw (eq-eqb (length b) (breaksAt n + k) l, w, i, m, s) (agree (ltb 256 n) (zeroOne (take 256 (drop (marksAt n) b))) (ltb 256 k) (ltb 1000000 (budgetIn b)) (ltb room reportLimit))
+    rw (eq-eqb (length b) (breaksAt n + k) l, w, i, m, s) (agree (ltb memoryWords n) (zeroOne (take memoryWords (drop (marksAt n) b))) (ltb breakLimit k) (ltb budgetLimit (budgetIn b)) (ltb room reportLimit))
 
 -- what the program does not refuse, the call does not
 pub bytes-accepted : (b : List ℕ) (room : ℕ) → bytesRefusal b room ≡ 0 → reportRefusal (inputOf b) room ≡ 0

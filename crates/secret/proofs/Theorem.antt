@@ -6,6 +6,7 @@ use mathlib.Core.List.{List, [], _∷_, _++_}
 use Prim.Native.Nat.{ℕ, _<_}
 use lib.ListN.{length, getD, replicate}
 use lib.Seq.{ext-getD}
+use Rattle.isa.specs.Sizes.{memoryWords}
 use Rattle.encoding.specs.Bytes.{bigEndian, number, readNumber}
 use Rattle.vm.specs.Calls.{imageWords}
 use Rattle.marks.specs.Marks.{marked, shown}
@@ -55,7 +56,7 @@ same→report i j A S =
     (rw (S .image, starts-same marked (imageWords (i .image)) (imageWords (j .image)) (i .marks) twin, outcome))
     ∙ (λ x. reportBytes marked (record { image = j .image; marks = S .marks x; budget = S .budget x; breaks = S .breaks x }))
   where
-    twin : (a : ℕ) → a < 256 → Twin marked (getD (i .marks) a 0) (getD (imageWords (i .image)) a 0) (getD (imageWords (j .image)) a 0)
+    twin : (a : ℕ) → a < memoryWords → Twin marked (getD (i .marks) a 0) (getD (imageWords (i .image)) a 0) (getD (imageWords (j .image)) a 0)
     twin a l = record { seen = λ p. S .words a l (marked-zero (getD (i .marks) a 0) p) }
 
     level : Level marked (guardedStart (i .image) (i .marks)) (guardedStart (j .image) (i .marks))

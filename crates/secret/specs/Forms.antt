@@ -10,6 +10,7 @@ use Rattle.isa.specs.Sizes.{memoryWords, registerCount, textWidth}
 use Rattle.encoding.specs.Bytes.{eachFrom}
 use Rattle.isa.specs.Text.{padded, textOf}
 use Rattle.marks.specs.Marks.{marked}
+use Rattle.marks.specs.Total.{hiddenCount}
 use Rattle.vm.specs.declared.machine.Machine.{Machine as Code}
 use Rattle.guard.specs.declared.stops.GuardedStop.{GuardedStop}
 use Rattle.vm.specs.Calls.{viewOf, imageWords}
@@ -32,10 +33,16 @@ pub record Reportable (m : Code) : Type 0 where
   pub touched : m .«touched_len» ≤ memoryWords
   pub texts : (i : ℕ) → padded textWidth (textOf (getD (viewOf m .trace) i noRecord .text)) ≡ getD (viewOf m .trace) i noRecord .text .bytes
 
--- what the code that writes a report asks of its parts: buffer, marks, breakpoints; the marks of registers and of memory, and the machine, as the run left them
-abbrev pub Writable : List ℕ → List ℕ → List ℕ → List ℕ → List ℕ → Code → Type 0
-Writable out marks breaks registers memory m =
-    (reportLimit ≤ length out) × (length marks ≡ memoryWords) × (length breaks ≤ breakLimit) × (length registers ≡ registerCount) × (length memory ≡ memoryWords) × Reportable m
+-- what the code that writes a report asks of its parts: buffer, marks, breakpoints; the marks of registers and of memory, the total of hidden words and the
+-- machine, as the run left them
+pub record Writable (out k b r q : List ℕ) (n : ℕ) (m : Code) : Type 0 where
+  pub room : reportLimit ≤ length out
+  pub marks : length k ≡ memoryWords
+  pub breaks : length b ≤ breakLimit
+  pub registers : length r ≡ registerCount
+  pub memory : length q ≡ memoryWords
+  pub total : n ≡ hiddenCount marked q
+  pub machine : Reportable m
 
 -- the records of the input, kinds 01 to 03
 abbrev pub inputRecords : Input → List ℕ

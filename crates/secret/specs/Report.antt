@@ -1,4 +1,4 @@
--- The report of a guarded run (01, section 6), as a list of bytes. `hid` says which marks hide a value.
+-- The report of a guarded run (01, section 6; 02, Change 6), as a list of bytes. `hid` says which marks hide a value.
 -- Assumes nothing.
 use Prim.Native.Nat.{ℕ}
 use mathlib.Core.Bool.{Bool, cond}
@@ -15,6 +15,7 @@ use Rattle.trace.specs.declared.records.TraceRecord.{TraceRecord}
 use Rattle.vm.specs.Machine.{Machine}
 use Rattle.vm.specs.Calls.{imageWords}
 use Rattle.marks.specs.Marks.{Marks, shown}
+use Rattle.marks.specs.Total.{hiddenCount}
 use Rattle.vm.specs.Guard.{GuardedEnd, guardedOf}
 use Rattle.guard.specs.Input.{Input}
 use Rattle.guard.specs.Stops.{stopNumber}
@@ -92,6 +93,10 @@ countBytes k =
 unfoldable pub controlBytes : ℕ → ℕ → ℕ → ℕ → ℕ → List ℕ
 controlBytes pc ir mar mark mdr = pc ∷ (bigEndian valueWidth ir ++ (addressBytes mar ++ (mark ∷ bigEndian valueWidth mdr)))
 
+-- kind 0A, how many words are hidden
+unfoldable pub hiddenRecord : ℕ → List ℕ
+hiddenRecord n = 0x0A ∷ bigEndian countWidth n
+
 module _ (hid : ℕ → Bool) where
   -- kind 08, the end: stop, registers of the control unit, counts, fault
   unfoldable pub endRecord : ℕ → State → Counters → ℕ → List ℕ
@@ -99,13 +104,14 @@ module _ (hid : ℕ → Bool) where
       let c = s .control in
       8 ∷ stop ∷ (controlBytes (c .pc) (c .ir) (c .mar) mark (shown hid mark (c .mdr)) ++ (countBytes k ++ faultBytes (s .fault)))
 
-  -- how the run ended, kinds 04 to 08: the stop's number, machine, marks
+  -- how the run ended, kinds 04 to 08 and 0A: the stop's number, machine, marks, of which those of memory are counted
   unfoldable pub endRecords : ℕ → Machine → Marks → List ℕ
   endRecords stop m k =
       traceRecords (m .trace)
       ++ (valueRecords hid 5 indexBytes registerCount (m .registers) (k .registers)
       ++ (valueRecords hid 6 addressBytes memoryWords (m .memory) (k .memory)
-      ++ (eachRecord touchedRecord (m .touched) ++ endRecord stop (m .state) (m .counters) (k .mdr))))
+      ++ (eachRecord touchedRecord (m .touched)
+      ++ (endRecord stop (m .state) (m .counters) (k .mdr) ++ hiddenRecord (hiddenCount hid (k .memory))))))
 
   unfoldable pub endBytes : GuardedEnd → List ℕ
   endBytes e = endRecords (stopNumber (e .stop)) (e .guarded .machine) (e .guarded .marks)

@@ -1,4 +1,4 @@
--- The widths of a report's fields, the lengths of its records and of the whole, in bytes (01, section 6).
+-- The widths of a report's fields, the lengths of its records and of the whole, in bytes (01, section 6; 02, Change 6).
 -- Assumes nothing.
 use Prim.Native.Nat.{ℕ, _+_, _*_}
 use Rattle.isa.specs.Sizes.{memoryWords, registerCount, textWidth}
@@ -12,7 +12,7 @@ use Rattle.guard.specs.Input.{breakLimit}
 abbrev pub kindWidth : ℕ
 kindWidth = 1
 
--- an image's length, a number of breakpoints
+-- an image's length, a number of breakpoints, a number of words
 abbrev pub countWidth : ℕ
 countWidth = 2
 
@@ -84,6 +84,10 @@ countsLength = 4 * numberWidth
 abbrev pub endLength : ℕ
 endLength = kindWidth + stopWidth + controlLength + countsLength + faultWidth
 
+-- 0A
+abbrev pub hiddenLength : ℕ
+hiddenLength = kindWidth + countWidth
+
 -- ---- all of a kind, and the whole
 
 abbrev pub startsLength : ℕ
@@ -106,9 +110,13 @@ breakRecordsAt = headLength + startsLength
 abbrev pub runRecordsAt : ℕ → ℕ
 runRecordsAt breaks = breakRecordsAt + breakLength * breaks
 
--- kinds 04 to 08, by the numbers of trace records and touched addresses
+-- 08 and 0A
+abbrev pub lastLength : ℕ
+lastLength = endLength + hiddenLength
+
+-- kinds 04 to 08 and 0A, by the numbers of trace records and touched addresses
 abbrev pub runLength : ℕ → ℕ → ℕ
-runLength trace touched = traceLength * trace + (registersLength + (wordsLength + (touchedLength * touched + endLength)))
+runLength trace touched = traceLength * trace + (registersLength + (wordsLength + (touchedLength * touched + lastLength)))
 
 -- the whole, by the number of breakpoints too
 abbrev pub reportLength : ℕ → ℕ → ℕ → ℕ

@@ -10,9 +10,8 @@ use lib.Dec.{eqb}
 use lib.ListN.{getD}
 use Rattle.control.specs.declared.control.Fault.{Fault}
 use Rattle.guard.specs.Stops.{go, reached, hiddenJump, guardIf}
-use Rattle.vm.specs.Guard.{Guarded, nextWord, guardedStep, guard, guardedRun}
+use Rattle.vm.specs.Guard.{Guarded, nextWord, guardedStep, guardedSteps, guard, guardedRun}
 use Rattle.vm.proofs.Guards.{guard-goes}
-use Rattle.vm.proofs.Plain.{guardedSteps}
 
 -- an instruction is tested as with a budget of one, whatever budget is left
 one-any : (h b w j : Bool) (f : Fault) (z : Bool) → z ≡ false → guardIf h b z w j f ≡ guardIf h b false w j f

@@ -13,8 +13,8 @@ use Rattle.marks.specs.Marks.{Marks, mdrMarked, instructionMarks}
 use Rattle.marks.proofs.Moves.{fetch-opens}
 use Rattle.guard.specs.Stops.{go, reached, hiddenJump, guardIf}
 use Rattle.vm.specs.Machine.{Machine}
-use Rattle.vm.specs.Guard.{Guarded, nextWord, guardedStep, guardedRun}
-use Rattle.vm.proofs.Plain.{instructions, guardedSteps, plain-steps}
+use Rattle.vm.specs.Guard.{Guarded, nextWord, guardedStep, guardedSteps, guardedRun}
+use Rattle.vm.proofs.Plain.{instructions, plain-steps}
 use Rattle.direct.specs.Work.{halts}
 use Rattle.direct.specs.Light.{Light, wordAt, lightSteps, recordsIn, marksSteps}
 use Rattle.vm.specs.Direct.{lightOf}

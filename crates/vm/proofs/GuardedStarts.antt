@@ -17,6 +17,7 @@ use Rattle.vm.specs.declared.machine.Machine.{Machine as Code}
 use Rattle.vm.specs.Forms.{Fit, Sizes}
 use Rattle.vm.specs.Calls.{partsOf, viewOf, isMachine, restOf, restarted, imageWords, imageSize}
 use Rattle.marks.specs.Marks.{marked}
+use Rattle.marks.specs.Total.{hiddenCount, IsCount}
 use Rattle.vm.specs.Guard.{guardedStart, guardedRun, guardedOf, GuardedAnswer, guardedAnswerOf, servedAnswer, refusedRun, guardedAnswer}
 use Rattle.guard.specs.Input.{Input, zeroOne, breakLimit, budgetLimit, inputRefusal}
 use Rattle.vm.proofs.Starts.{size-few, new-ok}
@@ -64,6 +65,13 @@ served-input i e = go (ltb memoryWords (length (i .image))) (eqb (length (i .mar
     go false true false true p q r z = absurd (omega (arith, z))
     go false true false false p q r z =
         (omega (arith, ltb-false memoryWords (length (i .image)) p), eqb-true (length (i .marks)) memoryWords (both (eqb (length (i .marks)) memoryWords) (zeroOne (i .marks)) q .0), ltb-false budgetLimit (i .budget) r)
+
+-- its marks in the code's array, and their count
+pub load-counts : (i : Input) → inputRefusal i ≡ 0 → {marks : List ℕ} {n : ℕ} → marks ≡ imageWords (i .marks) → n ≡ hiddenCount marked (i .marks) → IsCount marks n
+load-counts i z e c =
+    let full = served-input i z .1 in
+    let all = e ∙ words-are (i .marks) full in
+    record { full = ap length all ∙ full; count = c ∙ ap (hiddenCount marked) (sym all) }
 
 -- ---- by what the code finds: the words, how many count, the machine, the marks
 

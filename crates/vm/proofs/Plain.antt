@@ -26,7 +26,7 @@ use Rattle.vm.specs.Instruction.{Steps, started, ticked, unlessZero, ste
 use Rattle.vm.specs.Run.{verdict, closed, runNumber, RunEnd, run}
 use Rattle.guard.specs.Stops.{Verdict, go, stop, haltStop, reached, verdictIf, stopNumber, runCode, refusalIn}
 use Rattle.vm.specs.Calls.{restarted}
-use Rattle.vm.specs.Guard.{Guarded, GuardedEnd, nextWord, guardedStep, guardedEnd, guard, guardedRun, guardedStart, guardedOf}
+use Rattle.vm.specs.Guard.{Guarded, GuardedEnd, nextWord, guardedStep, guardedSteps, guardedEnd, guard, guardedRun, guardedStart, guardedOf}
 use Rattle.guard.specs.Input.{Input, inputRefusal}
 use Rattle.guard.specs.Stops.{haltedStop, guardIf, hiddenJump}
 use Rattle.vm.proofs.Runs.{run-stops, run-goes}
@@ -38,10 +38,6 @@ use Rattle.vm.proofs.GuardedStarts.{served-input}
 unfoldable pub instructions : ℕ → Machine → Machine
 instructions zero m = m
 instructions (suc k) m = instructions k (stepInstruction m .machine)
-
-unfoldable pub guardedSteps : ℕ → Guarded → Guarded
-guardedSteps zero g = g
-guardedSteps (suc k) g = guardedSteps k (guardedStep g)
 
 -- whatever the marks
 pub plain-steps : (k : ℕ) (g : Guarded) → guardedSteps k g .machine ≡ instructions k (g .machine)

@@ -1,4 +1,4 @@
--- Worked examples (01, section 9, 1* to 13*; 02, Change 2). Each row has the number of the example or of the change, a machine and the number of ticks that
+-- Worked examples (01, section 9, 1* to 13*; 02, Changes 2 and 6). Each row has the number of the example or of the change, a machine and the number of ticks that
 -- it makes, or the input of a guarded run, and what is then seen. One theorem says that the definitions give each row.
 -- Assumes nothing.
 use Prim.Native.Nat.{ℕ, zero, suc, _-_}
@@ -21,6 +21,7 @@ use Rattle.control.specs.Count.{countTick}
 use Rattle.tick.specs.Tick.{decodeTick, right16, left16, executeTick, tickOf}
 use Rattle.encoding.specs.Bytes.{member}
 use Rattle.marks.specs.Marks.{marked, instructionMarks}
+use Rattle.marks.specs.Total.{hiddenCount}
 use Rattle.guard.specs.Stops.{stopNumber}
 use Rattle.guard.specs.Input.{Input}
 use Rattle.trace.specs.declared.records.TraceRecord.{TraceRecord}
@@ -30,6 +31,7 @@ use Rattle.vm.specs.Instruction.{ticked, steps, stepInstruction}
 use Rattle.trace.specs.Touched.{noted}
 use Rattle.vm.specs.Calls.{viewOf, restarted, imageWords}
 use Rattle.vm.specs.Guard.{guardedStart, guardedRun, guardedOf}
+use Rattle.vm.specs.Total.{Counted, counted, countedStep}
 
 -- a state that goes on at an address
 abbrev pub goingOn : ℕ → State → State
@@ -57,11 +59,12 @@ pub data Given : Type 0 where
   ticks : List ℕ → List ℕ → ℕ → ℕ → Given
   guarded : Input → Given
 
--- the number of the stop and the marks of R1 and of words 11 and 12, of a guarded run; the newest text of the trace, R1, PC, the four counts, halted,
--- the fault
+-- of a guarded run the number of the stop, the marks of R1 and of words 11 and 12, and the totals of hidden words that it carries, at the start and after
+-- each instruction; the newest text of the trace, R1, PC, the four counts, halted, the fault
 pub record Seen : Type 0 where
   pub stop : List ℕ
   pub marks : List ℕ
+  pub totals : List ℕ
   pub texts : List Text
   pub r1 : ℕ
   pub pc : ℕ
@@ -72,10 +75,11 @@ pub record Seen : Type 0 where
   pub halted : Bool
   pub fault : Fault
 
-abbrev pub seenOf : List ℕ → List ℕ → Machine → Seen
-seenOf s k m = record {
+abbrev pub seenOf : List ℕ → List ℕ → List ℕ → Machine → Seen
+seenOf s k t m = record {
   stop = s;
   marks = k;
+  totals = t;
   texts = map (λ (r : TraceRecord). r .text) (takeLast 1 (m .trace));
   r1 = getD (m .registers) 1 0;
   pc = m .state .control .pc;
@@ -87,12 +91,18 @@ seenOf s k m = record {
   fault = m .state .fault;
 }
 
+-- now, and after each of n instructions
+unfoldable pub totalsIn : ℕ → Counted → List ℕ
+totalsIn zero c = c .total ∷ []
+totalsIn (suc n) c = c .total ∷ totalsIn n (countedStep marked c)
+
 unfoldable pub seen : Given → Seen
-seen (ticks image words p n) = seenOf [] [] (microSteps n (machineWith image words p))
+seen (ticks image words p n) = seenOf [] [] [] (microSteps n (machineWith image words p))
 seen (guarded i) =
     let e = guardedOf marked i in
     let k = e .guarded .marks in
-    seenOf (stopNumber (e .stop) ∷ []) (getD (k .registers) 1 0 ∷ getD (k .memory) 0x11 0 ∷ getD (k .memory) 0x12 0 ∷ []) (e .guarded .machine)
+    seenOf (stopNumber (e .stop) ∷ []) (getD (k .registers) 1 0 ∷ getD (k .memory) 0x11 0 ∷ getD (k .memory) 0x12 0 ∷ [])
+    (totalsIn (e .executed) (counted marked (guardedStart (i .image) (i .marks)))) (e .guarded .machine)
 
 -- document 01's example, or document 02's change, of that number
 pub data Source : Type 0 where
@@ -112,6 +122,7 @@ row e image words p n x v q k h f = record {
   answer = record {
     stop = [];
     marks = [];
+    totals = [];
     texts = text (ascii x) ∷ [];
     r1 = v;
     pc = q;
@@ -133,14 +144,15 @@ hiding program value = record {
   breaks = [];
 }
 
--- the source; the input of a guarded run; the stop, the marks of R1 and of words 11 and 12, text, R1, PC, instructions, ticks, reads, writes, halted, fault
-abbrev pub guardedRow : Source → Input → ℕ → List ℕ → String → ℕ → ℕ → ℕ → ℕ → ℕ → ℕ → Bool → Fault → Row
-guardedRow e i s g x v q k n a b h f = record {
+-- the source; the input of a guarded run; the stop, the marks of R1 and of words 11 and 12, the totals, text, R1, PC, instructions, ticks, reads, writes, halted, fault
+abbrev pub guardedRow : Source → Input → ℕ → List ℕ → List ℕ → String → ℕ → ℕ → ℕ → ℕ → ℕ → ℕ → Bool → Fault → Row
+guardedRow e i s g t x v q k n a b h f = record {
   source = e;
   given = guarded i;
   answer = record {
     stop = s ∷ [];
     marks = g;
+    totals = t;
     texts = text (ascii x) ∷ [];
     r1 = v;
     pc = q;
@@ -163,11 +175,15 @@ jumpingBehind w = hiding (0x3110 ∷ w ∷ 0xD105 ∷ 0xE000 ∷ 0 ∷ 0xE000 �
 
 -- the word cleared R1: the jump is taken
 abbrev pub cleared : ℕ → Row
-cleared w = guardedRow (change 2) (jumpingBehind w) 0 (0 ∷ 0 ∷ 0 ∷ []) "PC + 1 -> PC" 0 6 4 21 5 0 true Healthy
+cleared w = guardedRow (change 2) (jumpingBehind w) 0 (0 ∷ 0 ∷ 0 ∷ []) (replicate 5 1) "PC + 1 -> PC" 0 6 4 21 5 0 true Healthy
 
 -- it did not: stop 5 at the jump, with the word's text and R1
 abbrev pub uncleared : ℕ → String → ℕ → Row
-uncleared w x v = guardedRow (change 2) (jumpingBehind w) 5 (1 ∷ 0 ∷ 0 ∷ []) x v 2 2 12 3 0 false Healthy
+uncleared w x v = guardedRow (change 2) (jumpingBehind w) 5 (1 ∷ 0 ∷ 0 ∷ []) (replicate 3 1) x v 2 2 12 3 0 false Healthy
+
+-- Change 6: R1 from word 10, and stored at 11 and 12, and at 12 once more; then R1 open, and stored at 10 and 11
+abbrev pub storing : Input
+storing = hiding (0x3110 ∷ 0x4111 ∷ 0x4112 ∷ 0x4112 ∷ 0x1105 ∷ 0x4110 ∷ 0x4111 ∷ 0xE000 ∷ []) 0x1234
 
 -- 2* has three rows; 9* has its jump untaken, and then taken
 unfoldable pub rows : List Row
@@ -184,10 +200,10 @@ rows =
     ∷ row 8 (replicate 255 0 ++ (0x1105 ∷ [])) [] 255 4 "PC + 1 -> PC" 0 0 0 false Healthy
     ∷ row 9 (0xD120 ∷ []) (0 ∷ 1 ∷ []) 0 5 "if R1 = R0: 20 -> PC (not taken)" 1 1 1 false Healthy
     ∷ row 9 (0xD120 ∷ []) (7 ∷ 7 ∷ []) 0 5 "if R1 = R0: 20 -> PC" 7 0x20 1 false Healthy
-    ∷ guardedRow (example 10) breaking 0 (0 ∷ 0 ∷ 0 ∷ []) "PC + 1 -> PC" 0 1 1 4 1 0 true Healthy
-    ∷ guardedRow (example 11) (hiding (0x3110 ∷ 0x4111 ∷ 0x1105 ∷ 0x4112 ∷ 0xE000 ∷ []) 0x1234) 0 (0 ∷ 1 ∷ 0 ∷ []) "PC + 1 -> PC" 5 5 5 30 6 2 true Healthy
-    ∷ guardedRow (example 12) (hiding (0x3110 ∷ 0xD105 ∷ []) 0x1234) 5 (1 ∷ 0 ∷ 0 ∷ []) "MDR -> R1" 0x1234 1 1 7 2 0 false Healthy
-    ∷ guardedRow (example 13) (hiding (0x3010 ∷ 0xD005 ∷ []) 0x1234) 2 (0 ∷ 0 ∷ 0 ∷ []) "PC + 1 -> PC" 0 6 2 16 4 0 true (UnknownInstruction 0 5)
+    ∷ guardedRow (example 10) breaking 0 (0 ∷ 0 ∷ 0 ∷ []) (0 ∷ 0 ∷ []) "PC + 1 -> PC" 0 1 1 4 1 0 true Healthy
+    ∷ guardedRow (example 11) (hiding (0x3110 ∷ 0x4111 ∷ 0x1105 ∷ 0x4112 ∷ 0xE000 ∷ []) 0x1234) 0 (0 ∷ 1 ∷ 0 ∷ []) (1 ∷ 1 ∷ 2 ∷ 2 ∷ 2 ∷ 2 ∷ []) "PC + 1 -> PC" 5 5 5 30 6 2 true Healthy
+    ∷ guardedRow (example 12) (hiding (0x3110 ∷ 0xD105 ∷ []) 0x1234) 5 (1 ∷ 0 ∷ 0 ∷ []) (1 ∷ 1 ∷ []) "MDR -> R1" 0x1234 1 1 7 2 0 false Healthy
+    ∷ guardedRow (example 13) (hiding (0x3010 ∷ 0xD005 ∷ []) 0x1234) 2 (0 ∷ 0 ∷ 0 ∷ []) (1 ∷ 1 ∷ 1 ∷ 1 ∷ []) "PC + 1 -> PC" 0 6 2 16 4 0 true (UnknownInstruction 0 5)
     ∷ cleared 0xC111
     ∷ cleared 0xC122
     ∷ uncleared 0xC112 "R1 XOR R2 -> R1" 0x1234
@@ -196,8 +212,9 @@ rows =
     ∷ uncleared 0x810F "R1 >> 0F -> R1" 0
     ∷ cleared 0x9110
     ∷ uncleared 0x910F "R1 << 0F -> R1" 0
+    ∷ guardedRow (change 6) storing 0 (0 ∷ 0 ∷ 1 ∷ []) (1 ∷ 1 ∷ 2 ∷ 3 ∷ 3 ∷ 3 ∷ 2 ∷ 1 ∷ 1 ∷ []) "PC + 1 -> PC" 5 8 8 51 9 5 true Healthy
     ∷ []
 
 pub rows-hold : map (λ (r : Row). seen (r .given)) rows ≡ map (λ (r : Row). r .answer) rows
-unfolding rows seen microSteps machineWith restarted imageWords liveTrace slots pushed microStep nextText countTick tickOf decodeTick executeTick right16 left16 tickText tickTemplate executeText fetchText decodeNibble digits fill guardedOf guardedRun guardedStart stepInstruction steps ticked instructionMarks noted member loadText
+unfolding rows seen totalsIn hiddenCount microSteps machineWith restarted imageWords liveTrace slots pushed microStep nextText countTick tickOf decodeTick executeTick right16 left16 tickText tickTemplate executeText fetchText decodeNibble digits fill guardedOf guardedRun guardedStart stepInstruction steps ticked instructionMarks noted member loadText
 rows-hold = refl

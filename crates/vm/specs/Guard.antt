@@ -9,6 +9,7 @@ use Rattle.isa.specs.Sizes.{memoryWords, registerCount}
 use Rattle.guard.specs.declared.stops.GuardedStop.{GuardedStop}
 use Rattle.guard.specs.declared.stops.GuardedStop.the-variants.{Halted, Budget}
 use Rattle.marks.specs.Marks.{Marks, marked, marksOf, instructionMarks}
+use Rattle.marks.specs.Total.{hiddenCount}
 use Rattle.guard.specs.Stops.{Verdict, after, reached, hiddenJump, guardIf, stopNumber}
 use Rattle.guard.specs.Input.{Input, inputRefusal}
 use Rattle.vm.specs.declared.guarded.GuardedRun.{GuardedRun}
@@ -28,6 +29,11 @@ nextWord m = getD (m .memory) (m .state .control .pc) 0
 -- a whole instruction, and its marks
 abbrev pub guardedStep : Guarded → Guarded
 guardedStep g = record { machine = stepInstruction (g .machine) .machine; marks = instructionMarks (nextWord (g .machine)) (g .marks) }
+
+-- so many of them
+unfoldable pub guardedSteps : ℕ → Guarded → Guarded
+guardedSteps zero g = g
+guardedSteps (suc k) g = guardedSteps k (guardedStep g)
 
 pub record GuardedEnd : Type 0 where
   pub stop : GuardedStop
@@ -62,14 +68,16 @@ guardedStart image marks = record {
 unfoldable pub guardedOf : (ℕ → Bool) → Input → GuardedEnd
 guardedOf hid i = guardedRun hid (i .breaks) 0 (i .budget) (guardedStart (i .image) (i .marks))
 
--- ---- what the call answers (01, section 1 and last paragraph)
+-- ---- what the call answers (01, section 1 and last paragraph; 02, Change 6)
 
--- the number of the refusal, 0 where there is none; the stop by its number; the instructions begun; the machine with its marks; what no tick reads or writes
+-- the number of the refusal, 0 where there is none; the stop by its number; the instructions begun; the machine with its marks; how many words are hidden;
+-- what no tick reads or writes
 pub record GuardedAnswer : Type 0 where
   pub refused : ℕ
   pub stop : ℕ
   pub executed : ℕ
   pub guarded : Guarded
+  pub hiddenTotal : ℕ
   pub rest : Rest
 
 -- of the struct that is answered
@@ -79,10 +87,11 @@ guardedAnswerOf r = record {
   stop = stopNumber (r .stop);
   executed = r .executed .0;
   guarded = record { machine = viewOf (r .machine); marks = marksOf (r .marks .memory) (r .marks .registers) (r .marks .mdr) };
+  hiddenTotal = r .«hidden_total»;
   rest = restOf (r .machine);
 }
 
--- a served run
+-- a served run: the total is the full count of the marks at the stop
 abbrev pub servedAnswer : Input → GuardedAnswer
 servedAnswer i =
     let e = guardedOf marked i in
@@ -91,6 +100,7 @@ servedAnswer i =
       stop = stopNumber (e .stop);
       executed = e .executed;
       guarded = e .guarded;
+      hiddenTotal = hiddenCount marked (e .guarded .marks .memory);
       rest = record { image = imageWords (i .image); length = length (i .image); history = 0 };
     }
 
@@ -101,6 +111,7 @@ refusedRun n = record {
   marks = record { memory = replicate memoryWords 0; registers = replicate registerCount 0; mdr = 0 };
   stop = Halted;
   executed = record { 0 = 0 };
+  «hidden_total» = 0;
   refused = n;
 }
 

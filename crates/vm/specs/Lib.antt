@@ -9,6 +9,7 @@ pub mod StepCalls
 pub mod RunCalls
 pub mod History
 pub mod Guard
+pub mod Total
 pub mod Examples
 pub mod Direct
 pub mod Forms

@@ -147,9 +147,10 @@ fn with_lane(core: Core, lane: Lane) -> Core
     }
 }
 
-// Where a run goes on, and how many instructions were made.
+// Where a run goes on, how many words are hidden there, and how many instructions were made.
 pub struct Forwarded {
     pub core: Core,
+    pub hidden_total: u16,
     pub made: Begun,
 }
 
@@ -159,6 +160,7 @@ pub(crate) fn forward_parts(
     from: Core,
     begun: Begun,
     limit: Begun,
+    hidden_total: u16,
     breakpoints: &[u8],
     memory: &mut [u16; MEMORY_WORDS],
     registers: &mut [u16; REGISTER_COUNT],
@@ -168,19 +170,22 @@ pub(crate) fn forward_parts(
 ) -> Forwarded
     requires { ⌜ (from .state .control .tick ≡ 0) × TouchFit (from .«touched_len») (now touched) × (begun .0 ≤ limit .0) ⌝ }
     ensures { λ r. ⌜ Ahead (now (breakpoints .entry)) (begun .0) (limit .0)
-        from (now (memory .entry)) (now (registers .entry)) (now (touched .entry)) (now (marks .entry)) (now («register_marks» .entry))
-        (r .made .0) (r .core) (now (memory .exit)) (now (registers .exit)) (now (touched .exit)) (now (marks .exit)) (now («register_marks» .exit)) ⌝ }
+        from (now (memory .entry)) (now (registers .entry)) (now (touched .entry)) (now (marks .entry)) (now («register_marks» .entry)) «hidden_total»
+        (r .made .0) (r .core) (now (memory .exit)) (now (registers .exit)) (now (touched .exit))
+        (now (marks .exit)) (now («register_marks» .exit)) (r .«hidden_total») ⌝ }
 {
     let state = from.state;
     if begun.0 != 1 {
         return Forwarded {
             core: from,
+            hidden_total,
             made: Begun(0),
         };
     }
     if state.control.halted {
         return Forwarded {
             core: from,
+            hidden_total,
             made: Begun(0),
         };
     }
@@ -190,6 +195,7 @@ pub(crate) fn forward_parts(
         counters,
         alu,
         touched_len: from.touched_len,
+        hidden_total,
         pc: state.control.pc,
     };
     let more = limit.0 - begun.0;
@@ -206,5 +212,9 @@ pub(crate) fn forward_parts(
     let made = m.made;
     let end = m.lane;
     let core = with_lane(from, end);
-    Forwarded { core, made }
+    Forwarded {
+        core,
+        hidden_total: end.hidden_total,
+        made,
+    }
 }

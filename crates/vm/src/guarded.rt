@@ -1,8 +1,10 @@
 // The guarded run: a run of a new machine that stops before it would show what is hidden. The plain
-// machine does not see the marks; they move beside it, once for each instruction.
+// machine does not see the marks; they move beside it, once for each instruction, and with them the total of hidden
+// words, which is counted once.
 ghost use mathlib.Core.Path.{_≡_};
 ghost use mathlib.Core.Bool.{true};
 ghost use Rattle.marks.specs.Marks.{marked};
+ghost use Rattle.marks.specs.Total.{IsCount};
 ghost use Rattle.guard.specs.Input.{inputFrom, inputRefusal};
 ghost use Rattle.vm.specs.Guard.{guardedRun};
 ghost use Rattle.vm.specs.Forms.{Fit, given, came, left, guardedOn, endOn};
@@ -26,7 +28,9 @@ use guard::judge;
 use isa::MEMORY_WORDS;
 use isa::REGISTER_COUNT;
 use marks::Marks;
+use marks::count_hidden;
 use marks::mark_instruction;
+use marks::total_instruction;
 use trace::COLUMNS_LENGTH;
 use trace::TRACE_LIMIT;
 
@@ -34,13 +38,15 @@ pub struct GuardedCore {
     pub core: Core,
     pub stop: GuardedStop,
     pub executed: Begun,
+    pub hidden_total: u16,
     pub mdr_mark: u8,
 }
 
-// The run of a machine whose MDR is open: as `run_parts`, with marks.
+// The run of a machine whose MDR is open: as `run_parts`, with marks and the total of those that hide a word.
 fn guarded_parts(
     from: Core,
     budget: Begun,
+    hidden_total: u16,
     breakpoints: &[u8],
     marks: &mut [u8; MEMORY_WORDS],
     register_marks: &mut [u8; REGISTER_COUNT],
@@ -51,17 +57,18 @@ fn guarded_parts(
     numbers: &mut [u64; TRACE_LIMIT],
     lengths: &mut [u8; TRACE_LIMIT],
 ) -> GuardedCore
-    requires { ⌜ Fit (given from memory registers touched columns numbers lengths) ⌝ }
+    requires { ⌜ Fit (given from memory registers touched columns numbers lengths) × IsCount (now marks) «hidden_total» ⌝ }
     ensures { λ r. ⌜ (
         let was = came from memory registers touched columns numbers lengths in
         let is = left (r .core) memory registers touched columns numbers lengths in
         (endOn r (guardedOn is (now (marks .exit)) (now («register_marks» .exit)) (r .«mdr_mark»))
         ≡ guardedRun marked (now (breakpoints .entry)) 0 (budget .0) (guardedOn was (now (marks .entry)) (now («register_marks» .entry)) 0))
-        × Fit is) ⌝ }
+        × Fit is × IsCount (now (marks .exit)) (r .«hidden_total»)) ⌝ }
 {
     let mut s = from;
     let limit = budget.0;
     let mut begun: u64 = 0;
+    let mut total = hidden_total;
     let mut mdr: u8 = 0;
     loop {
         let state = s.state;
@@ -83,9 +90,11 @@ fn guarded_parts(
                 core,
                 stop,
                 executed: Begun(begun),
+                hidden_total: total,
                 mdr_mark: mdr,
             };
         }
+        let sum = total_instruction(word, total, marks, register_marks);
         let opened = mark_instruction(word, marks, register_marks);
         let t = next_parts(
             true,
@@ -103,6 +112,7 @@ fn guarded_parts(
             next,
             Begun(begun),
             Begun(limit),
+            sum,
             breakpoints,
             memory,
             registers,
@@ -112,17 +122,20 @@ fn guarded_parts(
         );
         let core = f.core;
         s = core;
+        total = f.hidden_total;
         mdr = opened;
         begun += f.made.0;
     }
 }
 
-// `refused` is 0, or the number of the refusal, beside which the rest is a fixed answer.
+// `refused` is 0, or the number of the refusal, beside which the rest is a fixed answer. `hidden_total` words are hidden
+// at the stop.
 pub struct GuardedRun {
     pub machine: Machine,
     pub marks: Marks,
     pub stop: GuardedStop,
     pub executed: Begun,
+    pub hidden_total: u16,
     pub refused: u8,
 }
 
@@ -141,6 +154,7 @@ fn refused_run(refused: u8) -> GuardedRun
         marks,
         stop: GuardedStop::Halted,
         executed: Begun(0),
+        hidden_total: 0,
         refused,
     }
 }
@@ -172,9 +186,11 @@ fn accepted_run(image: &[u16], marks: &[u8], budget: Begun, breakpoints: &[u8]) 
     let mut touched = new.touched;
     let mut word_marks = mark_words(marks);
     let mut register_marks = [0u8; REGISTER_COUNT];
+    let hidden_total = count_hidden(marks) as u16;
     let r = guarded_parts(
         core,
         budget,
+        hidden_total,
         breakpoints,
         &mut word_marks,
         &mut register_marks,
@@ -217,6 +233,7 @@ fn accepted_run(image: &[u16], marks: &[u8], budget: Begun, breakpoints: &[u8]) 
         marks,
         stop,
         executed,
+        hidden_total: r.hidden_total,
         refused: 0,
     }
 }

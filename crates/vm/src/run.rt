@@ -115,6 +115,7 @@ pub(crate) fn run_parts(
             next,
             Begun(begun),
             Begun(limit),
+            0,
             breakpoints,
             memory,
             registers,

@@ -7,6 +7,7 @@ mod calls;
 mod damage;
 mod difference;
 mod dumps;
+mod hidden_words;
 mod listings;
 mod parts;
 mod pipes;
@@ -21,7 +22,7 @@ mod words;
 
 use oracle::assembly;
 use oracle::replays::REPLAYS;
-use oracle::report::inputs;
+use oracle::report::inputs::{self, Relation};
 use parts::Parts;
 use std::cell::LazyCell;
 use std::env;
@@ -63,9 +64,14 @@ fn main() -> ExitCode {
     parts.part("massey_assemble, pieces", &texts::compare_pieces);
     parts.part("massey_assemble, round trips", &texts::compare_round_trips);
     for family in &inputs::FAMILIES {
-        parts.part(&format!("massey_report, {}", family.name), &|tally| {
-            reports::compare(tally, family)
-        });
+        let bytes = format!("massey_report, {}", family.name);
+        let totals = format!("massey_report, totals, {}", family.name);
+        match family.relation {
+            Relation::Counted => parts.two_parts([&bytes, &totals], &|tallies| {
+                reports::compare_counted(tallies, family)
+            }),
+            _ => parts.part(&bytes, &|tally| reports::compare(tally, family)),
+        }
     }
     parts.part("massey_report, pieces", &reports::compare_pieces);
     parts.end()

@@ -1,9 +1,9 @@
 //! `massey_report`: every input through the program, byte by byte.
 
-use crate::difference;
 use crate::program::Run;
 use crate::scripts::every;
 use crate::tally::Tally;
+use crate::{difference, hidden_words};
 use oracle::report::inputs::{Family, FAMILIES};
 use oracle::report::{self, bytes};
 
@@ -12,7 +12,7 @@ const PIECES: [usize; 5] = [1, 3, 7, 100, 511];
 const IN_PIECES: usize = 12;
 
 /// The records of a report: kind, name, and length with the kind's byte.
-const RECORDS: [(u8, &str, usize); 8] = [
+const RECORDS: [(u8, &str, usize); 9] = [
     (1, "the head", bytes::HEAD),
     (2, "a starting word", bytes::STARTING_WORD),
     (3, "a breakpoint", bytes::BREAKPOINT),
@@ -21,14 +21,52 @@ const RECORDS: [(u8, &str, usize); 8] = [
     (6, "a final word", bytes::FINAL_WORD),
     (7, "a touched address", bytes::TOUCHED),
     (8, "the end", bytes::END),
+    (0x0A, "the hidden words", bytes::HIDDEN_WORDS),
 ];
 
 pub fn compare(tally: &mut Tally, family: &Family) {
     for number in (0..(family.count)()).step_by(every()) {
-        for (index, input) in (family.inputs)(number).iter().enumerate() {
-            let name = || format!("{} {number}, its input {index}", family.name);
-            compare_one(tally, input, None, name);
+        let case = Case::of(family, number);
+        case.compare(tally);
+    }
+}
+
+/// All that the program writes, and how many words are hidden after so many
+/// instructions, by one run of each input. The inputs of a case make the same ones.
+pub fn compare_counted([bytes, totals]: &mut [Tally; 2], family: &Family) {
+    for number in (0..(family.count)()).step_by(every()) {
+        let case = Case::of(family, number);
+        let written = case.compare(bytes);
+        hidden_words::compare(totals, &case.inputs, &written, |index| case.name(index));
+    }
+}
+
+/// Inputs that belong together.
+struct Case<'a> {
+    family: &'a Family,
+    number: usize,
+    inputs: Vec<Vec<u8>>,
+}
+
+impl<'a> Case<'a> {
+    fn of(family: &'a Family, number: usize) -> Self {
+        Case {
+            family,
+            number,
+            inputs: (family.inputs)(number),
         }
+    }
+
+    /// One run of the program for each input; gives what was written.
+    fn compare(&self, tally: &mut Tally) -> Vec<Vec<u8>> {
+        let inputs = self.inputs.iter().enumerate();
+        inputs
+            .map(|(index, input)| compare_one(tally, input, None, || self.name(index)))
+            .collect()
+    }
+
+    fn name(&self, index: usize) -> String {
+        format!("{} {}, its input {index}", self.family.name, self.number)
     }
 }
 
@@ -46,20 +84,20 @@ pub fn compare_pieces(tally: &mut Tally) {
     }
 }
 
-/// One run of the program, its input at once or in pieces.
+/// One run of the program, its input at once or in pieces; gives what was written.
 fn compare_one(
     tally: &mut Tally,
     input: &[u8],
     piece: Option<usize>,
     name: impl FnOnce() -> String,
-) {
+) -> Vec<u8> {
     let run = Run {
         program: "massey_report",
         input,
         piece,
         wanted: &report::program::answer(input),
     };
-    run.compare(tally, name, |output| describe(output, run.wanted));
+    run.compare(tally, name, |output| describe(output, run.wanted))
 }
 
 /// Where the answer first differs, and in which record.
@@ -98,7 +136,9 @@ mod tests {
         assert_eq!(place(&report, 13), "a starting word (byte 13), its byte 0");
         assert_eq!(place(&report, 9_485), "the trace (byte 9485), its byte 0");
         assert_eq!(place(&report, 11_061), "the end (byte 11017), its byte 44");
-        assert_eq!(place(&report, 11_062), "past the end");
+        let hidden_words = "the hidden words (byte 11062), its byte 0";
+        assert_eq!(place(&report, 11_062), hidden_words);
+        assert_eq!(place(&report, 11_065), "past the end");
         assert_eq!(place(&refused(6), 8), "a refusal");
     }
 }

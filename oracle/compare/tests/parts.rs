@@ -53,6 +53,18 @@ fn totals_are_parts_of_their_own() {
     );
 }
 
+/// So can the numbers of hidden words: here of three cases, which have four inputs each.
+#[test]
+fn hidden_words_are_parts_of_their_own() {
+    let ended = compare_each(100, "massey_report, totals, count_marks");
+    let said = String::from_utf8_lossy(&ended.stdout);
+    assert!(ended.status.success(), "{}", ended.status);
+    assert_eq!(
+        said,
+        "massey_report, totals, count_marks: 12 passed, 0 failed\n12 passed, 0 failed\n"
+    );
+}
+
 /// No dump of this family has bus totals.
 #[test]
 fn a_part_that_has_nothing_to_compare_fails() {

@@ -1,5 +1,5 @@
 //! The report of a guarded run, as bytes: document 01, section 6, one function
-//! for each kind of record.
+//! for each kind of record. The last of them is from document 02, Change 6.
 
 use crate::codes::put_fault;
 use crate::encoding::{put_count, put_number, put_text, put_word};
@@ -21,7 +21,12 @@ pub const TRACE: usize = 1 + 8 + 1 + 1 + TEXT;
 pub const REGISTER: usize = 1 + 1 + VALUE;
 pub const FINAL_WORD: usize = 1 + ADDRESS + VALUE;
 pub const TOUCHED: usize = 1 + ADDRESS;
-pub const END: usize = 1 + 1 + 1 + 2 + ADDRESS + VALUE + 4 * 8 + 4;
+pub const END: usize = FAULT + 1 + 2 + 1;
+pub const HIDDEN_WORDS: usize = 1 + 2;
+
+/// Where the end has its first count, instructions, and where its fault.
+pub const COUNTS: usize = 1 + 1 + 1 + 2 + ADDRESS + VALUE;
+pub const FAULT: usize = COUNTS + 4 * 8;
 
 /// The bytes of the longest report.
 pub const LONGEST: usize = HEAD
@@ -29,7 +34,8 @@ pub const LONGEST: usize = HEAD
     + BREAKPOINTS * BREAKPOINT
     + TRACE_RECORDS * TRACE
     + REGISTERS * REGISTER
-    + END;
+    + END
+    + HIDDEN_WORDS;
 
 /// A text that is not shown is all zeros.
 const NO_TEXT: &str = "";
@@ -52,6 +58,7 @@ pub fn bytes(input: &Input, run: &Run) -> Vec<u8> {
     put_values(&mut out, 6, &run.machine.memory, &run.marks.memory);
     put_touched(&mut out, &run.machine.touched);
     put_end(&mut out, run);
+    put_hidden_words(&mut out, run);
     out
 }
 
@@ -127,6 +134,13 @@ fn put_end(out: &mut Vec<u8>, run: &Run) {
     put_number(out, machine.bus_reads);
     put_number(out, machine.bus_writes);
     put_fault(out, machine.fault);
+}
+
+/// Kind 0A: the words that are marked at the stop, all counted. Nothing that was
+/// kept along the way is used, since that is what the port does.
+fn put_hidden_words(out: &mut Vec<u8>, run: &Run) {
+    out.push(0x0A);
+    put_count(out, run.marks.hidden_words());
 }
 
 /// A mark and the value behind it, which is written 0000 where it is marked.

@@ -40,8 +40,19 @@ pub struct Run {
 pub fn run(input: &Input) -> Result<Run, u8> {
     match refusal(input) {
         Some(number) => Err(number),
-        None => Ok(checked(input, guarded(input))),
+        None => Ok(checked(input, guarded(input, |_| {}))),
     }
+}
+
+/// How many words are hidden at the start of the run and after each instruction that
+/// it begins, each time all of them counted; or the number of its refusal.
+pub fn hidden_counts(input: &Input) -> Result<Vec<usize>, u8> {
+    if let Some(number) = refusal(input) {
+        return Err(number);
+    }
+    let mut counts = Vec::new();
+    guarded(input, |marks| counts.push(marks.hidden_words()));
+    Ok(counts)
 }
 
 // -- refusals ---------------------------------------------------------------
@@ -79,11 +90,13 @@ pub fn is_large_budget(budget: u64) -> bool {
 
 // -- the run ----------------------------------------------------------------
 
-/// The run of an input that is not refused.
-fn guarded(input: &Input) -> Run {
+/// The run of an input that is not refused. `watch` is shown the marks at the start
+/// and after each instruction.
+fn guarded(input: &Input, mut watch: impl FnMut(&Marks)) -> Run {
     let mut machine = loaded(input);
     let mut marks = started(input);
     let mut executed = 0;
+    watch(&marks);
     let stop = loop {
         if let Some(stop) = stop(input, &machine, &marks, executed) {
             break stop;
@@ -91,6 +104,7 @@ fn guarded(input: &Input) -> Run {
         marks.follow(word_at_pc(&machine));
         machine.step_instruction();
         executed += 1;
+        watch(&marks);
     };
     if stop == Stop::Budget {
         // A spent budget halts the machine, as the original does it.

@@ -67,6 +67,11 @@ impl Marks {
         self.memory[usize::from(address)] = self.mdr;
     }
 
+    /// How many words of memory are marked. Registers and MDR are no words.
+    pub fn hidden_words(&self) -> usize {
+        self.memory.iter().filter(|mark| **mark).count()
+    }
+
     fn of(&self, register: u8) -> bool {
         self.registers[usize::from(register)]
     }

@@ -6,3 +6,4 @@ pub mod guarded;
 pub mod inputs;
 pub mod marks;
 pub mod program;
+pub mod totals;

@@ -13,10 +13,18 @@ pub const DECIDING: usize = 2 + 2 * MEMORY_WORDS + MEMORY_WORDS + 8 + 2 + BREAKP
 
 /// The report, or the line that names the refusal.
 pub fn answer(bytes: &[u8]) -> Vec<u8> {
+    match served(bytes) {
+        Err(number) => refused(number),
+        Ok(input) => bytes::report(&input).expect("all refusals were tested"),
+    }
+}
+
+/// What these bytes ask for, or the number of the refusal.
+pub fn served(bytes: &[u8]) -> Result<Input, u8> {
     let parts = Parts::of(bytes);
     match parts.refusal() {
-        Some(number) => refused(number),
-        None => bytes::report(&parts.input()).expect("all refusals were tested"),
+        Some(number) => Err(number),
+        None => Ok(parts.input()),
     }
 }
 

@@ -3,6 +3,8 @@
 //! one can be made alone.
 
 pub mod cleared;
+pub mod count_loops;
+pub mod counts;
 pub mod examples;
 pub mod opcodes;
 pub mod pairs;
@@ -36,9 +38,13 @@ pub enum Relation {
     Same,
     /// They are reports, and none is the first.
     Different,
+    /// They are reports of one image with the same marks, and so of the same
+    /// instructions, up to the end of each: after as many of them, as many words are
+    /// hidden in each.
+    Counted,
 }
 
-pub const FAMILIES: [Family; 22] = [
+pub const FAMILIES: [Family; 29] = [
     free(
         "sample",
         || sample::inputs().len(),
@@ -78,7 +84,7 @@ pub const FAMILIES: [Family; 22] = [
         || random::RANDOM_INPUTS,
         |number| vec![bytes(&random::any(number))],
     ),
-    free(
+    counted(
         "budgets",
         || random::BUDGET_PROGRAMS,
         |number| all_bytes(&random::every_budget(number)),
@@ -129,7 +135,7 @@ pub const FAMILIES: [Family; 22] = [
         inputs: |number| all_bytes(&pairs::more_values(number)),
         relation: Relation::Same,
     },
-    free(
+    counted(
         "stretch_ends",
         || stretches::END_CASES,
         |number| all_bytes(&stretches::ends(number)),
@@ -140,6 +146,41 @@ pub const FAMILIES: [Family; 22] = [
         inputs: |number| all_bytes(&stretches::any(number)),
         relation: Relation::Same,
     },
+    counted(
+        "count_stores",
+        || counts::STORE_CASES,
+        |number| all_bytes(&counts::stores(number)),
+    ),
+    counted(
+        "count_stops",
+        || all_stops().len(),
+        |number| all_bytes(&all_stops()[number]),
+    ),
+    counted(
+        "count_marks",
+        || counts::MARK_CASES,
+        |number| all_bytes(&counts::marks(number)),
+    ),
+    counted(
+        "count_straight",
+        || all_straight().len(),
+        |number| all_bytes(&all_straight()[number]),
+    ),
+    counted(
+        "count_sweeps",
+        || count_loops::SWEEP_CASES,
+        |number| all_bytes(&count_loops::sweeps(number)),
+    ),
+    counted(
+        "count_stretches",
+        || count_loops::STRETCH_CASES,
+        |number| all_bytes(&count_loops::stretches(number)),
+    ),
+    counted(
+        "count_long",
+        || count_loops::long().len(),
+        |number| all_bytes(&count_loops::long()[number]),
+    ),
 ];
 
 /// A family whose inputs have nothing to do with each other.
@@ -156,8 +197,32 @@ const fn free(
     }
 }
 
+/// A family whose cases have one image and the same marks each.
+const fn counted(
+    name: &'static str,
+    count: fn() -> usize,
+    inputs: fn(usize) -> Vec<Vec<u8>>,
+) -> Family {
+    Family {
+        name,
+        count,
+        inputs,
+        relation: Relation::Counted,
+    }
+}
+
 fn all_bytes(inputs: &[Input]) -> Vec<Vec<u8>> {
     inputs.iter().map(bytes).collect()
+}
+
+fn all_stops() -> &'static [Vec<Input>] {
+    static ALL: LazyLock<Vec<Vec<Input>>> = LazyLock::new(counts::stops);
+    &ALL
+}
+
+fn all_straight() -> &'static [Vec<Input>] {
+    static ALL: LazyLock<Vec<Vec<Input>>> = LazyLock::new(counts::straight);
+    &ALL
 }
 
 fn all_refused() -> &'static [Vec<u8>] {

@@ -96,9 +96,20 @@ fn address(random: &mut Random, tried: &Run) -> u8 {
 /// mark, and a run to HALT hides it.
 pub fn every_budget(number: usize) -> Vec<Input> {
     let mut random = Random::new(0xB0D6_0000_0000 + number as u64);
-    let input = programs::any(&mut random);
-    let end = with_budget(&input, SHORT).executed;
-    (0..=end + 1)
+    with_every_budget(&programs::any(&mut random), SHORT)
+}
+
+/// The input with every budget from 0 to one past its end, or past `most` where it
+/// goes on for longer.
+pub fn with_every_budget(input: &Input, most: u64) -> Vec<Input> {
+    let end = with_budget(input, most).executed;
+    with_budgets(input, 0..=end + 1)
+}
+
+/// The input with each of these budgets.
+pub fn with_budgets(input: &Input, budgets: impl IntoIterator<Item = u64>) -> Vec<Input> {
+    let budgets = budgets.into_iter();
+    budgets
         .map(|budget| Input {
             budget,
             ..input.clone()

@@ -6,9 +6,11 @@ use crate::images::{self, PARTLY_USED};
 use crate::programs::HALT;
 use crate::record::Record;
 use crate::report::guarded::Input;
-use crate::report::inputs::examples::{self, input};
+use crate::report::inputs::count_loops::tides;
+use crate::report::inputs::examples::{self, input, with_word_10};
 use crate::report::inputs::{cleared, opcodes, pairs, random, refused};
 use crate::report::program::{answer, bytes};
+use crate::sizes::MEMORY_WORDS;
 
 /// The program's own sample, for its folder. A hidden word of what it says is
 /// loaded, copied and stored; then R1 is open again, and a jump leads to HALT.
@@ -33,7 +35,8 @@ pub fn inputs() -> Vec<Vec<u8>> {
 }
 
 /// Each stop, MDR's mark behind a load, hidden values, runs by chance, words whose
-/// texts may end in them, and registers that are cleared or nearly so.
+/// texts may end in them, registers that are cleared or nearly so, and numbers of hidden
+/// words.
 fn served() -> Vec<Input> {
     let behind = opcodes::behind_a_load();
     let mut served: Vec<Input> = [24, 26, 28, 50].map(|at| behind[at].clone()).to_vec();
@@ -41,7 +44,26 @@ fn served() -> Vec<Input> {
     served.extend((0..8).map(|number| random::any(11 * number)));
     served.push(partly_used());
     served.extend(cleared::ROWS.map(cleared::row));
+    served.extend(counted());
     served
+}
+
+/// Two words more are hidden, one of them by itself; the only hidden word is opened; a
+/// long run hides words and opens some again; and all are hidden, so many that their
+/// number has two bytes.
+pub fn counted() -> [Input; 4] {
+    let hiding = with_word_10(&[0x3110, 0x4111, 0x4102, HALT], 0x5EC7);
+    let opening = with_word_10(&[0x1105, 0x4110, HALT], 0x5EC7);
+    let all_hidden = Input {
+        marks: vec![1; MEMORY_WORDS],
+        ..input(&[HALT], &[], 9)
+    };
+    [
+        input(&hiding, &[0x10], 9),
+        input(&opening, &[0x10], 9),
+        tides(1_000),
+        all_hidden,
+    ]
 }
 
 /// Each word whose text may end in it, first open and then hidden.

@@ -14,7 +14,7 @@ use crate::sizes::BREAKPOINTS;
 /// More than any of these runs begins before its end.
 const AMPLE: u64 = 5_000;
 /// A hidden word that the bodies leave alone, and one that they move.
-const HIDDEN: u16 = countdowns::VALUES + 4;
+pub const HIDDEN: u16 = countdowns::VALUES + 4;
 const MOVED: u16 = countdowns::VALUES;
 
 // -- bodies -----------------------------------------------------------------
@@ -43,17 +43,17 @@ pub const BODIES: [Body; 4] = [MOVING, ROTATING, countdowns::SWEEPING, CLEARING]
 // -- chosen ends ------------------------------------------------------------
 
 /// What a countdown comes to, and the marks that are there besides.
-struct Met {
-    out: Out,
+pub struct Met {
+    pub out: Out,
     marked: Vec<u8>,
 }
 
 /// Those of the plain runs, ten with something hidden, and four with a register
 /// that is cleared or nearly so.
 pub const CLEARED: usize = OUTS + 10;
-const MEETINGS: usize = CLEARED + 4;
+pub const MEETINGS: usize = CLEARED + 4;
 
-fn met(number: usize, body: &[u16]) -> Met {
+pub fn met(number: usize, body: &[u16]) -> Met {
     match number {
         0..OUTS => Met {
             out: countdowns::out(number, body),
@@ -142,7 +142,7 @@ pub fn ends(number: usize) -> Vec<Input> {
 }
 
 /// A program that has begun so many instructions at its end.
-fn meeting(begun: usize, body: &[u16], met: &Met) -> Input {
+pub fn meeting(begun: usize, body: &[u16], met: &Met) -> Input {
     let image = countdown(begun - met.out.more, body, &met.out.words);
     let marked = [&met.marked[..], &[HIDDEN as u8, MOVED as u8]].concat();
     input(&image, &marked, AMPLE)

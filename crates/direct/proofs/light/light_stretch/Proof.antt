@@ -3,16 +3,20 @@
 use Prim.Native.Nat.{ℕ, _+_, _-_, _≤_, _<_, zero-le}
 use native.Mathlib.Omega.{arith}
 use mathlib.Core.Path.{_≡_, ap, sym, _∙_}
+use mathlib.Core.Bool.{Bool, true, false, not}
 use borrow.Author.Needs.{needs}
 use borrow.Author.Tests.{not-true, not-false}
 use denote.Ref.{now}
+use lib.Dec.{ltb}
 use lib.ListN.{getD}
 use Rattle.isa.specs.declared.opcode.Decoded.{Decoded}
 use Rattle.isa.specs.declared.opcode.Decoded.the-variants.{Known}
 use Rattle.isa.specs.Word.{decodeWord}
 use Rattle.isa.proofs.Words.{read-off}
+use Rattle.marks.specs.Marks.{marked}
+use Rattle.guard.specs.Stops.{hiddenBy, hiddenJump}
 use Rattle.direct.specs.Work.{counts, halts}
-use Rattle.direct.specs.Lane.{slotsOf, slotWord, slotStep, slotNext, lastingOf, stretch}
+use Rattle.direct.specs.Lane.{Slots, slotsOf, slotWord, slotStep, slotNext, lastingOf, passesOn, goesOn, stretch}
 use Rattle.direct.proofs.Lanes.{next-is, lasts-known, lasts-counts}
 use Rattle.direct.proofs.Stretches.{stretch-turn, stretch-stop, stretch-end}
 use Rattle.direct.proofs.light.light_stretch.Statement.{statement}
@@ -26,6 +30,10 @@ Inv-loop breaks memory₀ registers₀ touched₀ seen₀ marks₀ register-mark
 
 abbrev μ-loop : tie.MeasureT-loop
 μ-loop breaks memory₀ registers₀ touched₀ seen₀ marks₀ register-marks₀ limit s₀ made₀ memory registers touched seen marks register-marks s made = limit - made
+
+-- the slots of a turn
+abbrev slotsAt : tie.At-loop Inv-loop μ-loop → Slots
+slotsAt c = let l = c .loop in slotsOf (l .s) (l .memory) (l .registers) (l .touched) (l .seen) (l .marks) (l .register-marks)
 
 loop-holds : tie.Need-loop-holds Inv-loop μ-loop
 loop-holds c =
@@ -53,15 +61,44 @@ may-go-requires c κs = search needs
 
 returns : tie.Need-returns Inv-loop μ-loop
 returns c =
-    let l = c .before .before .before .before .before .before .before .loop in
-    let a = c .before .before .before .before .before .before .before .before .args in
-    sym (stretch-stop (now (a .breaks)) (a .limit .0) (l .made) (slotsOf (l .s) (l .memory) (l .registers) (l .touched) (l .seen) (l .marks) (l .register-marks)) (sym (c .before .may-go .ensures) ∙ not-true _ (c .if1 .taken))) ∙ l .inv .0
+    let l = c .before .before .before .before .before .before .loop in
+    let a = c .before .before .before .before .before .before .before .args in
+    let p : passesOn (now (a .breaks)) (ltb (l .made) (a .limit .0)) (slotsAt (c .before .before .before .before .before .before)) ≡ false = sym (c .before .may-go .ensures) ∙ not-true _ (c .if1 .taken) in
+    sym (stretch-stop (now (a .breaks)) (a .limit .0) (l .made) (slotsAt (c .before .before .before .before .before .before)) (rw p)) ∙ l .inv .0
 
 from-word-requires : tie.Need-from-word-requires Inv-loop μ-loop
 from-word-requires c κs = search needs
 
 opcode-requires : tie.Need-opcode-requires Inv-loop μ-loop
 opcode-requires c κs = search needs
+
+hidden-by-requires : tie.Need-hidden-by-requires Inv-loop μ-loop
+hidden-by-requires c κs = search needs
+
+-- what the word decodes to, that it passes, and whether it is a hidden jump
+module _ (c : tie.After-hidden-by Inv-loop μ-loop) where
+  abbrev at : tie.At-loop Inv-loop μ-loop
+  at = c .before .before .before .before .before .before .before .before .before .before
+
+  abbrev word : ℕ
+  word = getD (at .loop .memory) (at .loop .s .pc) 0
+
+  decodes : decodeWord word ≡ c .before .before .opcode .result
+  decodes = read-off decodeWord word (c .before .before .before .from-word .ensures) (c .before .before .opcode .ensures)
+
+  passing : passesOn (now (at .before .args .breaks)) (ltb (at .loop .made) (at .before .args .limit .0)) (slotsAt at) ≡ true
+  passing = sym (c .before .before .before .before .before .may-go .ensures) ∙ not-false _ (c .before .before .before .before .if1 .left)
+
+  goes : {h : Bool} → c .hidden-by .result ≡ h → goesOn (now (at .before .args .breaks)) (ltb (at .loop .made) (at .before .args .limit .0)) (slotsAt at) ≡ not h
+  goes e =
+      let j : hiddenJump marked word (at .loop .register-marks) ≡ _ = ap (λ (d : Decoded). hiddenBy marked d word (at .loop .register-marks)) decodes ∙ sym (c .hidden-by .ensures) ∙ e in
+      rw (passing, j)
+
+returns-2 : tie.Need-returns-2 Inv-loop μ-loop
+returns-2 c =
+    let l = at (c .before) .loop in
+    let a = at (c .before) .before .args in
+    sym (stretch-stop (now (a .breaks)) (a .limit .0) (l .made) (slotsAt (at (c .before))) (goes (c .before) (c .if2 .taken))) ∙ l .inv .0
 
 lasting-requires : tie.Need-lasting-requires Inv-loop μ-loop
 lasting-requires c κs = search needs
@@ -72,44 +109,49 @@ enum-known-decoded c = search needs
 enum-told : tie.Need-enum-told Inv-loop μ-loop
 enum-told c = search needs
 
-returns-2 : tie.Need-returns-2 Inv-loop μ-loop
-returns-2 c =
-    let l = c .before .before .before .before .before .before .before .before .before .before .before .before .loop in
-    let a = c .before .before .before .before .before .before .before .before .before .before .before .before .before .args in
-    let w = getD (l .memory) (l .s .pc) 0 in
-    sym (stretch-end (now (a .breaks)) (a .limit .0) (l .made) (slotsOf (l .s) (l .memory) (l .registers) (l .touched) (l .seen) (l .marks) (l .register-marks)) (sym (c .before .before .before .before .before .before .may-go .ensures) ∙ not-false _ (c .before .before .before .before .before .if1 .left))
-    (ap counts (ap lastingOf (read-off decodeWord w (c .before .before .before .before .from-word .ensures) (c .before .before .before .opcode .ensures)) ∙ sym (c .before .before .lasting .ensures) ∙ c .enum-told .given .1)))
+returns-3 : tie.Need-returns-3 Inv-loop μ-loop
+returns-3 c =
+    let h = c .before .before .before .before in
+    let l = at h .loop in
+    let a = at h .before .args in
+    sym (stretch-end (now (a .breaks)) (a .limit .0) (l .made) (slotsAt (at h)) (goes h (c .before .before .before .if2 .left)) (ap counts (ap lastingOf (decodes h) ∙ sym (c .before .before .lasting .ensures) ∙ c .enum-told .given .1)))
     ∙ l .inv .0
 
 light-known-requires : tie.Need-light-known-requires Inv-loop μ-loop
 light-known-requires c κs = search needs
 
 -- the word runs on, by its opcode; and the test was passed
-known : (c : tie.After-light-known Inv-loop μ-loop) → let l = c .before .before .before .before .before .before .before .before .before .before .before .before .before .before .before .before .before .before .before .before .loop in lastingOf (decodeWord (getD (l .memory) (l .s .pc) 0)) ≡ Known (c .before .before .before .before .before .before .before .before .decoded .given .0 .0)
-known c =
-    let l = c .before .before .before .before .before .before .before .before .before .before .before .before .before .before .before .before .before .before .before .before .loop in
-    ap lastingOf (read-off decodeWord (getD (l .memory) (l .s .pc) 0) (c .before .before .before .before .before .before .before .before .before .before .before .before .from-word .ensures) (c .before .before .before .before .before .before .before .before .before .before .before .opcode .ensures)) ∙ sym (c .before .before .before .before .before .before .before .before .before .before .lasting .ensures) ∙ c .before .before .before .before .before .before .before .before .decoded .given .1
+module _ (c : tie.After-light-known Inv-loop μ-loop) where
+  abbrev tested : tie.After-hidden-by Inv-loop μ-loop
+  tested = c .before .before .before .before .before .before .before .before .before .before .before .before
 
-turn : (c : tie.After-light-known Inv-loop μ-loop) → let l = c .before .before .before .before .before .before .before .before .before .before .before .before .before .before .before .before .before .before .before .before .loop in let a = c .before .before .before .before .before .before .before .before .before .before .before .before .before .before .before .before .before .before .before .before .before .args in let s = (slotsOf (l .s) (l .memory) (l .registers) (l .touched) (l .seen) (l .marks) (l .register-marks)) in
-    (l .made < a .limit .0) × (stretch (now (a .breaks)) (a .limit .0 - l .made) (l .made) s ≡ stretch (now (a .breaks)) (a .limit .0 - (l .made + 1)) (l .made + 1) (slotStep (decodeWord (slotWord s)) (slotWord s) s))
-turn c =
-    let l = c .before .before .before .before .before .before .before .before .before .before .before .before .before .before .before .before .before .before .before .before .loop in
-    let a = c .before .before .before .before .before .before .before .before .before .before .before .before .before .before .before .before .before .before .before .before .before .args in
-    stretch-turn (now (a .breaks)) (a .limit .0) (l .made) (slotsOf (l .s) (l .memory) (l .registers) (l .touched) (l .seen) (l .marks) (l .register-marks)) (sym (c .before .before .before .before .before .before .before .before .before .before .before .before .before .before .may-go .ensures) ∙ not-false _ (c .before .before .before .before .before .before .before .before .before .before .before .before .before .if1 .left)) (ap counts (known c))
+  known : lastingOf (decodeWord (word tested)) ≡ Known (c .before .before .before .before .before .before .before .before .decoded .given .0 .0)
+  known = ap lastingOf (decodes tested) ∙ sym (c .before .before .before .before .before .before .before .before .before .before .lasting .ensures) ∙ c .before .before .before .before .before .before .before .before .decoded .given .1
+
+  turn : (
+      let l = at tested .loop in
+      let a = at tested .before .args in
+      let s = slotsAt (at tested) in
+      (l .made < a .limit .0)
+      × (stretch (now (a .breaks)) (a .limit .0 - l .made) (l .made) s ≡ stretch (now (a .breaks)) (a .limit .0 - (l .made + 1)) (l .made + 1) (slotStep (decodeWord (slotWord s)) (slotWord s) s)))
+  turn =
+      let l = at tested .loop in
+      let a = at tested .before .args in
+      stretch-turn (now (a .breaks)) (a .limit .0) (l .made) (slotsAt (at tested)) (goes tested (c .before .before .before .before .before .before .before .before .before .before .before .if2 .left)) (ap counts known)
 
 add-made : tie.Need-add-made Inv-loop μ-loop
-add-made c = let h = turn c .0 in omega (arith, h, c .before .before .before .before .before .before .before .before .before .before .before .before .before .before .before .before .before .before .before .before .loop .inv .2)
+add-made c = let h = turn c .0 in omega (arith, h, at (tested c) .loop .inv .2)
 
 loop-less : tie.Need-loop-less Inv-loop μ-loop
 loop-less c = let h = turn c .0 in omega (arith, h)
 
 loop-again : tie.Need-loop-again Inv-loop μ-loop
 loop-again c =
-    let l = c .before .before .before .before .before .before .before .before .before .before .before .before .before .before .before .before .before .before .before .before .loop in
-    let a = c .before .before .before .before .before .before .before .before .before .before .before .before .before .before .before .before .before .before .before .before .before .args in
+    let l = at (tested c) .loop in
+    let a = at (tested c) .before .args in
     let h = turn c in
-    let w = getD (l .memory) (l .s .pc) 0 in
-    let s = (slotsOf (l .s) (l .memory) (l .registers) (l .touched) (l .seen) (l .marks) (l .register-marks)) in
+    let w = word (tested c) in
+    let s = slotsAt (at (tested c)) in
     let o = c .before .before .before .before .before .before .before .before .decoded .given .0 .0 in
     let d = lasts-known (decodeWord w) o (known c) in
     let e : slotNext o w s ≡ slotStep (decodeWord w) w s = next-is o w s (ap halts (sym d) ∙ lasts-counts (decodeWord w) (ap counts (known c))) ∙ ap (λ (x : Decoded). slotStep x w s) (sym d) in
@@ -131,10 +173,12 @@ light-stretch-spec =
     returns
     from-word-requires
     opcode-requires
+    hidden-by-requires
+    returns-2
     lasting-requires
     enum-known-decoded
     enum-told
-    returns-2
+    returns-3
     light-known-requires
     add-made
     loop-less

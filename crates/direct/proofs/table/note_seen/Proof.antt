@@ -12,12 +12,12 @@ returns : tie.Need-returns
 unfolding noteSeen
 returns c = rw (eq-eqb _ 1 (c .if1 .taken))
 
+element-write-seen : tie.Need-element-write-seen
+element-write-seen c = search needs
+
 returns-2 : tie.Need-returns-2
 unfolding noteSeen
 returns-2 c = rw (ne-eqb _ 1 (c .before .if1 .left), le-ltb _ _ (c .if2 .taken))
-
-element-write-seen : tie.Need-element-write-seen
-element-write-seen c = search needs
 
 element-write-items : tie.Need-element-write-items
 element-write-items c = search needs
@@ -35,8 +35,8 @@ note-seen-spec =
     (tie.spec
     element-copy-out-if1
     returns
-    returns-2
     element-write-seen
+    returns-2
     element-write-items
     add-result
     returns-3)

@@ -1,6 +1,6 @@
 -- By its tests.
 -- Assumes nothing.
-use mathlib.Core.Path.{_≡_, ap, sym, _∙_}
+use mathlib.Core.Path.{_≡_, ap}
 use mathlib.Core.Bool.{true, false, not}
 use borrow.Author.Tests.{eq-eqb, ne-eqb, not-true, not-false}
 use Rattle.guard.specs.Forms.{passes}
@@ -21,15 +21,7 @@ hides-requires c κs = search needs
 
 returns-3 : tie.Need-returns-3
 unfolding passes
-returns-3 c = let m : c .before .before .before .before .args .more ≡ true = not-false _ (c .before .before .before .if1 .left) in rw (m, eq-eqb _ 0 (c .before .before .if2 .left), sym (c .before .hides .ensures) ∙ c .if3 .taken)
-
-hidden-jump-requires : tie.Need-hidden-jump-requires
-hidden-jump-requires c κs = search needs
-
-returns-4 : tie.Need-returns-4
-unfolding passes
-returns-4 c = let m : c .before .before .before .before .before .args .more ≡ true = not-false _ (c .before .before .before .before .if1 .left) in rw (m, eq-eqb _ 0 (c .before .before .before .if2 .left), sym (c .before .before .hides .ensures) ∙ c .before .if3 .left) (ap not (c .hidden-jump .ensures))
+returns-3 c = let m : c .before .before .before .args .more ≡ true = not-false _ (c .before .before .if1 .left) in rw (m, eq-eqb _ 0 (c .before .if2 .left)) (ap not (c .hides .ensures))
 
 pub may-go-spec : {M : Type 1} → statement M
-may-go-spec =
-    tie.close (tie.spec returns returns-2 hides-requires returns-3 hidden-jump-requires returns-4)
+may-go-spec = tie.close (tie.spec returns returns-2 hides-requires returns-3)

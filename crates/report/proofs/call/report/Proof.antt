@@ -3,6 +3,9 @@
 use mathlib.Core.Path.{_≡_, sym, ap, _∙_}
 use denote.Ref.{now}
 use lib.ListN.{length}
+use Rattle.isa.specs.Sizes.{memoryWords, registerCount}
+use Rattle.marks.specs.Marks.{marked}
+use Rattle.marks.specs.Total.{hiddenCount}
 use Rattle.vm.specs.Guard.{GuardedAnswer, guardedAnswerOf, servedAnswer}
 use Rattle.vm.proofs.GuardedStarts.{answer-served, answer-refusal}
 use Rattle.guard.specs.Input.{Input, inputFrom, inputRefusal}
@@ -16,10 +19,10 @@ use Rattle.report.proofs.call.report.Tie as tie
 abbrev inputOf : tie.Start → Input
 inputOf s = let a = s .args in inputFrom (now (a .image)) (now (a .marks)) (a .budget .0) (now (a .breakpoints))
 
-sixteen : (c : tie.After-guarded-run) → length (c .guarded-run .result .marks .registers) ≡ 16
+sixteen : (c : tie.After-guarded-run) → length (c .guarded-run .result .marks .registers) ≡ registerCount
 sixteen c = search needs
 
-many : (c : tie.After-guarded-run) → length (c .guarded-run .result .marks .memory) ≡ 256
+many : (c : tie.After-guarded-run) → length (c .guarded-run .result .marks .memory) ≡ memoryWords
 many c = search needs
 
 -- the number of the refusal, and what is answered where there is none
@@ -58,7 +61,16 @@ write-report-requires c κs =
     let z = t .before .if1 .left in
     let i = inputOf s in
     let A = input-accepted i (sym (number g) ∙ z) in
-    (t .if2 .left, A .full, A .few, sixteen g, many g, reportable (g .guarded-run .result .machine) (g .guarded-run .ensures .1 .1) i (ap (λ (e : GuardedAnswer). e .guarded .machine) (answer g z)))
+    let e = answer g z in
+    record {
+      room = t .if2 .left;
+      marks = A .full;
+      breaks = A .few;
+      registers = sixteen g;
+      memory = many g;
+      total = ap (λ (a : GuardedAnswer). a .hiddenTotal) e ∙ ap (λ (a : GuardedAnswer). hiddenCount marked (a .guarded .marks .memory)) (sym e);
+      machine = reportable (g .guarded-run .result .machine) (g .guarded-run .ensures .1 .1) i (ap (λ (a : GuardedAnswer). a .guarded .machine) e);
+    }
 
 same-length : tie.Need-same-length
 same-length c = search needs

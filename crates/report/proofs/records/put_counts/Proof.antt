@@ -2,6 +2,7 @@
 -- Assumes nothing.
 use mathlib.Core.List.{[], _∷_}
 use native.Mathlib.Omega.{arith}
+use Rattle.secret.specs.Widths.{numberWidth}
 use Rattle.encoding.specs.Bytes.{bigEndian}
 use Rattle.encoding.proofs.Written.{writtens-eq}
 use Rattle.encoding.proofs.Numbers.{length-bigEndian}
@@ -46,8 +47,8 @@ returns c =
     let k = a .counters in
     rw (p .put-number4 .ensures, q .put-number3 .ensures, r .put-number2 .ensures, t .put-number .ensures)
     (writtens-eq (a .out .now) (a .at)
-    ((8, bigEndian 8 (k .instructions)) ∷ (8, bigEndian 8 (k .«micro_operations»)) ∷ (8, bigEndian 8 (k .«bus_reads»)) ∷ (8, bigEndian 8 (k .«bus_writes»)) ∷ [])
-    (length-bigEndian 8 (k .instructions), (length-bigEndian 8 (k .«micro_operations»), (length-bigEndian 8 (k .«bus_reads»), (length-bigEndian 8 (k .«bus_writes»), tt))))
+    ((numberWidth, bigEndian numberWidth (k .instructions)) ∷ (numberWidth, bigEndian numberWidth (k .«micro_operations»)) ∷ (numberWidth, bigEndian numberWidth (k .«bus_reads»)) ∷ (numberWidth, bigEndian numberWidth (k .«bus_writes»)) ∷ [])
+    (length-bigEndian numberWidth (k .instructions), (length-bigEndian numberWidth (k .«micro_operations»), (length-bigEndian numberWidth (k .«bus_reads»), (length-bigEndian numberWidth (k .«bus_writes»), tt))))
     (omega (arith, s .pre)))
 
 pub put-counts-spec : {M : Type 1} → statement M

@@ -3,9 +3,11 @@
 use mathlib.Core.Path.{refl}
 use mathlib.Core.List.{[], _∷_}
 use native.Mathlib.Omega.{arith}
+use Prim.Native.Nat.{_+_}
+use Rattle.secret.specs.Widths.{kindWidth, stopWidth, controlLength, countsLength}
 use Rattle.marks.specs.Marks.{marked, shown}
 use Rattle.encoding.proofs.Written.{overs-eq}
-use Rattle.control.specs.Codes.{faultBytes}
+use Rattle.control.specs.Codes.{faultBytes, faultWidth}
 use Rattle.secret.specs.Report.{controlBytes, countBytes, endRecord}
 use Rattle.control.proofs.Faults.{length-fault}
 use Rattle.secret.proofs.Shows.{length-control, length-counts}
@@ -54,7 +56,7 @@ returns c =
     let d = shown marked (a .mark) (k .mdr) in
     rw (p .put-fault .ensures, q .put-counts .ensures, r .put-control .ensures, v .shown-value .ensures, t .put-byte .ensures)
     (overs-eq (a .out .now) (a .at)
-    ((2, 8 ∷ a .stop ∷ []) ∷ (7, controlBytes (k .pc) (k .ir) (k .mar) (a .mark) d) ∷ (32, countBytes (a .counters)) ∷ (4, faultBytes (a .state .fault)) ∷ [])
+    ((kindWidth + stopWidth, 8 ∷ a .stop ∷ []) ∷ (controlLength, controlBytes (k .pc) (k .ir) (k .mar) (a .mark) d) ∷ (countsLength, countBytes (a .counters)) ∷ (faultWidth, faultBytes (a .state .fault)) ∷ [])
     (refl, (length-control (k .pc) (k .ir) (k .mar) (a .mark) d, (length-counts (a .counters), (length-fault (a .state .fault), tt))))
     (omega (arith, s .pre)))
 

@@ -2,6 +2,7 @@
 -- Assumes nothing.
 use mathlib.Core.List.{[], _∷_}
 use native.Mathlib.Omega.{arith}
+use Rattle.secret.specs.Widths.{kindWidth, countWidth, numberWidth}
 use Rattle.encoding.specs.Bytes.{bigEndian}
 use Rattle.encoding.proofs.Written.{writtens-eq}
 use Rattle.encoding.proofs.Numbers.{length-bigEndian}
@@ -36,8 +37,8 @@ returns c =
     let a = s .args in
     rw (p .put-number4 .ensures, q .put-number3 .ensures, r .put-number2 .ensures, t .put-number .ensures)
     (writtens-eq (a .out .now) 0
-    ((1, bigEndian 1 1) ∷ (2, bigEndian 2 (a .len)) ∷ (8, bigEndian 8 (a .budget .0)) ∷ (2, bigEndian 2 (a .count)) ∷ [])
-    (length-bigEndian 1 1, (length-bigEndian 2 (a .len), (length-bigEndian 8 (a .budget .0), (length-bigEndian 2 (a .count), tt))))
+    ((kindWidth, bigEndian kindWidth 1) ∷ (countWidth, bigEndian countWidth (a .len)) ∷ (numberWidth, bigEndian numberWidth (a .budget .0)) ∷ (countWidth, bigEndian countWidth (a .count)) ∷ [])
+    (length-bigEndian kindWidth 1, (length-bigEndian countWidth (a .len), (length-bigEndian numberWidth (a .budget .0), (length-bigEndian countWidth (a .count), tt))))
     (omega (arith, s .pre)))
 
 pub put-head-spec : {M : Type 1} → statement M

@@ -3,6 +3,9 @@
 use mathlib.Core.Path.{refl}
 use mathlib.Core.List.{[], _∷_}
 use native.Mathlib.Omega.{arith}
+use Prim.Native.Nat.{_+_}
+use Rattle.isa.specs.Sizes.{textWidth}
+use Rattle.secret.specs.Widths.{kindWidth, numberWidth, placeWidth, phaseWidth}
 use Rattle.encoding.specs.Bytes.{bigEndian}
 use Rattle.encoding.proofs.Written.{writtens-eq}
 use Rattle.encoding.proofs.Numbers.{length-bigEndian}
@@ -49,8 +52,8 @@ returns c =
     let a = s .args in
     rw (p .put-bytes2 .ensures, q .put-bytes .ensures, r .put-number2 .ensures, t .put-number .ensures)
     (writtens-eq (a .out .now) (a .at)
-    ((1, bigEndian 1 4) ∷ (8, bigEndian 8 (a .number)) ∷ (2, a .address ∷ a .phase ∷ []) ∷ (32, a .text .now) ∷ [])
-    (length-bigEndian 1 4, (length-bigEndian 8 (a .number), (refl, (s .pre .1, tt))))
+    ((kindWidth, bigEndian kindWidth 4) ∷ (numberWidth, bigEndian numberWidth (a .number)) ∷ (placeWidth + phaseWidth, a .address ∷ a .phase ∷ []) ∷ (textWidth, a .text .now) ∷ [])
+    (length-bigEndian kindWidth 4, (length-bigEndian numberWidth (a .number), (refl, (s .pre .1, tt))))
     (omega (arith, s .pre)))
 
 pub put-traced-spec : {M : Type 1} → statement M

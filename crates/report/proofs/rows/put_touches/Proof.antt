@@ -29,17 +29,20 @@ abbrev μ-loop : tie.MeasureT-loop
 loop-holds : tie.Need-loop-holds Inv-loop μ-loop
 loop-holds c = (search needs, refl, rw (add-zero, sub-zero))
 
-mul-put-touched : tie.Need-mul-put-touched Inv-loop μ-loop
-mul-put-touched c = search needs
+mul-put-numbered : tie.Need-mul-put-numbered Inv-loop μ-loop
+mul-put-numbered c = search needs
 
-add-put-touched : tie.Need-add-put-touched Inv-loop μ-loop
-add-put-touched c = search needs
+add-put-numbered : tie.Need-add-put-numbered Inv-loop μ-loop
+add-put-numbered c = search needs
 
-shared-slice-read-put-touched : tie.Need-shared-slice-read-put-touched Inv-loop μ-loop
-shared-slice-read-put-touched c = search needs
+shared-slice-read-put-numbered : tie.Need-shared-slice-read-put-numbered Inv-loop μ-loop
+shared-slice-read-put-numbered c = search needs
 
-put-touched-requires : tie.Need-put-touched-requires Inv-loop μ-loop
-put-touched-requires c κs = search needs
+cast-put-numbered : tie.Need-cast-put-numbered Inv-loop μ-loop
+cast-put-numbered c = omega (arith, c .shared-slice-known2 .given (c .before .before .before .loop .i))
+
+put-numbered-requires : tie.Need-put-numbered-requires Inv-loop μ-loop
+put-numbered-requires c κs = search needs
 
 add-i : tie.Need-add-i Inv-loop μ-loop
 add-i c = search needs
@@ -55,8 +58,8 @@ loop-again c =
     let s = a .before .before .before .args in
     let x = now (s .list) in (
       omega arith,
-      p .put-touched .kept .0 ∙ l .inv .1,
-      rw (p .put-touched .ensures) (each-turn touchedLength (piece x) (l .out) (s .at) (l .i) (length x) (length-touched (getD x (l .i) 0)) (omega arith) (omega arith) ∙ l .inv .2),
+      p .put-numbered .kept .0 ∙ l .inv .1,
+      rw (p .put-numbered .ensures) (each-turn touchedLength (piece x) (l .out) (s .at) (l .i) (length x) (length-touched (getD x (l .i) 0)) (omega arith) (omega arith) ∙ l .inv .2),
     )
 
 same-length : tie.Need-same-length Inv-loop μ-loop
@@ -77,10 +80,11 @@ put-touches-spec =
     Inv-loop
     μ-loop
     loop-holds
-    mul-put-touched
-    add-put-touched
-    shared-slice-read-put-touched
-    put-touched-requires
+    mul-put-numbered
+    add-put-numbered
+    shared-slice-read-put-numbered
+    cast-put-numbered
+    put-numbered-requires
     add-i
     loop-less
     loop-again

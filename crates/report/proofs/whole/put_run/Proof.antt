@@ -6,7 +6,8 @@ use native.Mathlib.Omega.{arith}
 use denote.Ref.{now}
 use lib.ListN.{length, take}
 use lib.Seq.{length-take-le}
-use Rattle.trace.specs.Trace.{columnsLength}
+use Rattle.isa.specs.Sizes.{memoryWords, registerCount}
+use Rattle.trace.specs.Trace.{columnsLength, traceLimit}
 use Rattle.secret.proofs.Traces.{run-over}
 use borrow.Author.Needs.{needs}
 use Rattle.report.proofs.whole.put_run.Statement.{statement}
@@ -15,16 +16,16 @@ use Rattle.report.proofs.whole.put_run.Tie as tie
 columns : (c : tie.Start) → length (c .args .machine .columns) ≡ columnsLength
 columns c = search needs
 
-numbers : (c : tie.Start) → length (c .args .machine .numbers) ≡ 512
+numbers : (c : tie.Start) → length (c .args .machine .numbers) ≡ traceLimit
 numbers c = search needs
 
-registers : (c : tie.Start) → length (c .args .machine .registers) ≡ 16
+registers : (c : tie.Start) → length (c .args .machine .registers) ≡ registerCount
 registers c = search needs
 
-memory : (c : tie.Start) → length (c .args .machine .memory) ≡ 256
+memory : (c : tie.Start) → length (c .args .machine .memory) ≡ memoryWords
 memory c = search needs
 
-touched : (c : tie.Start) → length (c .args .machine .touched) ≡ 256
+touched : (c : tie.Start) → length (c .args .machine .touched) ≡ memoryWords
 touched c = search needs
 
 room : (c : tie.Start) → length (now (c .args .out)) < 18446744073709551616
@@ -108,7 +109,7 @@ returns c =
     let s = p .before .before .before .before .before .before .before .before .before .before .before .before .before .before in
     let a = s .args in (
       omega arith,
-      rw (l .put-last .ensures, q .put-cells .ensures, p .put-trace .ensures)
+      rw (l .put-last .ensures, q .put-cells .ensures, p .put-trace .ensures, s .pre .4)
           (run-over (a .machine) (s .pre .3) (a .stop) (a .mark) (now (a .register-marks)) (now (a .memory-marks)) (now (a .out)) (a .at) (columns s) (touched s) (s .pre .0)),
     )
 

@@ -4,6 +4,7 @@ use mathlib.Core.Path.{_≡_, _∙_}
 use native.Mathlib.Omega.{arith}
 use denote.Ref.{now}
 use lib.ListN.{length}
+use Rattle.isa.specs.Sizes.{memoryWords}
 use Rattle.guard.specs.Input.{inputFrom}
 use Rattle.trace.specs.Trace.{columnsLength}
 use Rattle.secret.proofs.Wholes.{whole-served}
@@ -14,7 +15,7 @@ use Rattle.report.proofs.whole.write_report.Tie as tie
 columns : (c : tie.Start) → length (c .args .machine .columns) ≡ columnsLength
 columns c = search needs
 
-touched : (c : tie.Start) → length (c .args .machine .touched) ≡ 256
+touched : (c : tie.Start) → length (c .args .machine .touched) ≡ memoryWords
 touched c = search needs
 
 number-requires : tie.Need-number-requires
@@ -41,8 +42,8 @@ returns c =
     let q = p .before .before .before .before in
     let s = q .before .before .before .before .before .before .before .before .before in
     let a = s .args in
-    whole-served (inputFrom (now (a .image)) (now (a .marks)) (a .budget .0) (now (a .breakpoints))) (a .stop) (a .machine) (s .pre .5) (now (a .register-marks)) (now (a .memory-marks)) (a .mark) (now (a .out))
-    (columns s) (touched s) (omega (arith, s .pre .0, s .pre .2)) (p .put-run .ensures .0)
+    whole-served (inputFrom (now (a .image)) (now (a .marks)) (a .budget .0) (now (a .breakpoints))) (a .stop) (a .machine) (s .pre .machine) (now (a .register-marks)) (now (a .memory-marks)) (a .mark) (now (a .out))
+    (columns s) (touched s) (omega (arith, s .pre .room, s .pre .breaks)) (p .put-run .ensures .0)
     (p .put-run .ensures .1 ∙ rw (q .put-input .ensures, q .before .before .number .ensures))
 
 pub write-report-spec : {M : Type 1} → statement M
