@@ -26,7 +26,7 @@
 #define MASSEY_VERSION 5
 
 /* The stack that is enough for any of the calls. Measured, less what an empty
- * thread takes: massey_report 48,632 bytes, massey_assemble 7,768 and
+ * thread takes: massey_report 48,648 bytes, massey_assemble 7,768 and
  * massey_listing 1,416. */
 #define MASSEY_STACK 65536
 
