@@ -19,11 +19,13 @@
 /* The version of these calls. It rises where a call, a record or a number
  * changes. No call answers it, so it speaks for this header alone. Version 2 has
  * the word behind the disassembly of 12,015 words (massey_disassemble); in
- * version 3 a register that an instruction clears is open (massey_mark); version
- * 4 has massey_assemble, and those 12,015 words as .word in a listing; version 5
- * has one record more at the end of a report (MASSEY_RECORD_HIDDEN), so that its
- * buffer and its length have three bytes more. */
-#define MASSEY_VERSION 5
+ * version 3 a register that an instruction clears is open; version 4 has
+ * massey_assemble, and those 12,015 words as .word in a listing; version 5 has
+ * one record more at the end of a report (MASSEY_RECORD_HIDDEN), so that its
+ * buffer and its length have three bytes more; in version 6 a mark is a byte of
+ * owners, the input of massey_report ends in the reader's clearance, and a
+ * report's head is another record, of one byte more. */
+#define MASSEY_VERSION 6
 
 /* The stack that is enough for any of the calls. Measured, less what an empty
  * thread takes: massey_report 48,648 bytes, massey_assemble 7,768 and
@@ -53,25 +55,26 @@
 #define MASSEY_IMAGE_LENGTH 512
 #define MASSEY_LABEL 6
 
-/* A guarded run: the most breakpoints, and the largest budget. It has a mark
- * for each word of memory, whatever the image's length. */
+/* A guarded run: the most breakpoints, and the largest budget. It has an owner
+ * byte for each word of memory, whatever the image's length. */
 #define MASSEY_BREAKPOINTS 256
 #define MASSEY_BUDGET 1000000
 
 /* A report: the longest input that is served, the least buffer, which is also
  * the longest report, and the most trace records in one. */
-#define MASSEY_REPORT_INPUT 1036
-#define MASSEY_REPORT_LENGTH 33933
+#define MASSEY_REPORT_INPUT 1037
+#define MASSEY_REPORT_LENGTH 33934
 #define MASSEY_TRACE 512
 
 /* ---- refusals: a refused call answers minus one of these, and where several
  * hold, the lowest, but for massey_assemble, where the text's refusals go before
  * 5 and its first faulty line decides. massey_disassemble can be refused 5,
- * massey_listing 1, 5 and 6, massey_assemble 5, 11, 12 and 13, massey_report 1 to
- * 6. */
+ * massey_listing 1, 5 and 6, massey_assemble 5, 11, 12 and 13, massey_report 1
+ * and 3 to 6. */
 enum massey_refusal {
     MASSEY_REFUSED_IMAGE = 1,       /* an image over 256 words */
-    MASSEY_REFUSED_MARKS = 2,       /* a mark that is not 0 or 1 */
+    MASSEY_REFUSED_MARKS = 2,       /* owner bytes that are not 256; no call
+                                       here is handed them by themselves */
     MASSEY_REFUSED_BREAKPOINTS = 3, /* over 256 breakpoints */
     MASSEY_REFUSED_BUDGET = 4,      /* a budget over 1,000,000 */
     MASSEY_REFUSED_BUFFER = 5,      /* an output buffer that is too short */
@@ -83,41 +86,45 @@ enum massey_refusal {
     MASSEY_REFUSED_WORDS = 13       /* a line with the 257th word */
 };
 
-/* ---- marks: one byte for each address in the input, and one in each record of
- * kind 02, 05, 06 and 08. A marked value is written as zeros. What comes of a
- * marked value is marked, but for a register that XOR with y = z or a shift of 16
- * or more clears: it is 0 for every input, and open. */
-enum massey_mark {
-    MASSEY_OPEN = 0,
-    MASSEY_MARKED = 1
-};
+/* ---- owners: a value's mark is a byte of eight owners, one bit each, and every
+ * byte is lawful. There is one for each address in the input, and one in each
+ * record of kind 02, 05, 06 and 08, whole, whether the value shows or not. What
+ * comes of two values has the owners of both; a register that XOR with y = z or a
+ * shift of 16 or more clears has none, as it is 0 for every input. The reader's
+ * clearance is such a byte too. A value with an owner that the clearance lacks is
+ * hidden from that reader: it is written as zeros, and is neither run nor tested
+ * by a jump. */
+#define MASSEY_OWNERS 8
+#define MASSEY_OWNER(i) (1 << (i)) /* i from 0 to 7 */
+#define MASSEY_HIDDEN(clearance, owners) (((owners) & ~(clearance) & 0xFF) != 0)
 
 /* ---- records of a report: a kind byte, and a body whose length goes by the
- * kind. They stand in the order of their kinds. docs/FORMATS.md, 'The report',
- * has their offsets. */
+ * kind. The head stands first, and behind it the others in the order of their
+ * kinds. docs/FORMATS.md, 'The report', has their offsets. */
 enum massey_record {
-    MASSEY_RECORD_HEAD = 0x01,       /* image length 2, budget 8, breakpoint
-                                        count 2 */
-    MASSEY_RECORD_START = 0x02,      /* address 1, mark 1, value 2, disassembly
+    MASSEY_RECORD_HEAD = 0x09,       /* image length 2, budget 8, breakpoint
+                                        count 2, clearance 1 */
+    MASSEY_RECORD_START = 0x02,      /* address 1, owners 1, value 2, disassembly
                                         32; one for each word of memory */
     MASSEY_RECORD_BREAKPOINT = 0x03, /* address 1; in the given order */
     MASSEY_RECORD_TRACE = 0x04,      /* number 8, address 1, phase 1, text 32;
                                         the oldest first */
-    MASSEY_RECORD_REGISTER = 0x05,   /* index 1, mark 1, value 2; one for each
+    MASSEY_RECORD_REGISTER = 0x05,   /* index 1, owners 1, value 2; one for each
                                         register */
-    MASSEY_RECORD_WORD = 0x06,       /* address 1, mark 1, value 2; one for each
+    MASSEY_RECORD_WORD = 0x06,       /* address 1, owners 1, value 2; one for each
                                         word of memory, as the run left it */
     MASSEY_RECORD_TOUCHED = 0x07,    /* address 1; in order of first writing */
-    MASSEY_RECORD_END = 0x08,        /* stop 1, PC 1, IR 2, MAR 1, MDR's mark 1,
-                                        MDR 2, instructions 8, micro operations
-                                        8, bus reads 8, bus writes 8, fault
-                                        kind 1, its word 2, its address 1 */
-    MASSEY_RECORD_HIDDEN = 0x0A      /* how many words of memory are marked as
-                                        the run left them 2 */
+    MASSEY_RECORD_END = 0x08,        /* stop 1, PC 1, IR 2, MAR 1, MDR's owners
+                                        1, MDR 2, instructions 8, micro
+                                        operations 8, bus reads 8, bus writes 8,
+                                        fault kind 1, its word 2, its address
+                                        1 */
+    MASSEY_RECORD_HIDDEN = 0x0A      /* how many words of memory are hidden from
+                                        the reader as the run left them 2 */
 };
 
 /* The length of a whole record of each kind, its kind byte included. */
-#define MASSEY_RECORD_HEAD_LENGTH 13
+#define MASSEY_RECORD_HEAD_LENGTH 14
 #define MASSEY_RECORD_START_LENGTH 37
 #define MASSEY_RECORD_BREAKPOINT_LENGTH 2
 #define MASSEY_RECORD_TRACE_LENGTH 43
@@ -139,8 +146,8 @@ enum massey_stop {
     MASSEY_STOP_BREAKPOINT = 1,
     MASSEY_STOP_FAULT = 2,       /* a word without an opcode */
     MASSEY_STOP_BUDGET = 3,
-    MASSEY_STOP_HIDDEN_WORD = 4, /* the word at PC is marked */
-    MASSEY_STOP_HIDDEN_JUMP = 5  /* a jump would test a marked register */
+    MASSEY_STOP_HIDDEN_WORD = 4, /* the word at PC is hidden */
+    MASSEY_STOP_HIDDEN_JUMP = 5  /* a jump would test a hidden register */
 };
 
 /* The end record's fault. The budget's is that of stop 3, with IR as its word
@@ -181,13 +188,13 @@ int64_t massey_assemble(const uint8_t *text, size_t text_len, uint8_t *out,
                         size_t out_len);
 
 /* Makes a guarded run and writes its report to the start of out, keeps the bytes
- * past it, and answers its length, at most 33,933. The input is that of the
- * program massey_report: image length 2 bytes, the words 2 each, 256 marks 1
- * each, budget 8, breakpoint count 2, the breakpoints 1 each. Refused is -1 an
- * image length over 256, else -2 a mark that is not 0 or 1, else -3 a breakpoint
- * count over 256, else -4 a budget over 1,000,000, all of these where the
- * number, or all the marks, are there; else -5 where out has under 33,933 bytes,
- * else -6 where the input is shorter or longer than its counts say. */
+ * past it, and answers its length, at most 33,934. The input is that of the
+ * program massey_report: image length 2 bytes, the words 2 each, 256 owner bytes
+ * 1 each, budget 8, breakpoint count 2, the breakpoints 1 each, clearance 1.
+ * Refused is -1 an image length over 256, else -3 a breakpoint count over 256,
+ * else -4 a budget over 1,000,000, each of these where the number is there; else
+ * -5 where out has under 33,934 bytes, else -6 where the input is shorter or
+ * longer than its counts say. */
 int64_t massey_report(const uint8_t *input, size_t input_len, uint8_t *out,
                       size_t out_len);
 

@@ -11,13 +11,14 @@ use oracle::report::program;
 use oracle::sizes::MEMORY_WORDS;
 use std::hint::black_box;
 
-/// What the report program reads for an image without hidden words.
+/// What the report program reads for an image whose words have no owners.
 fn input(words: &[u16], budget: u64, breakpoints: &[u8]) -> Vec<u8> {
     program::bytes(&Input {
         image: words.to_vec(),
-        marks: vec![0; MEMORY_WORDS],
+        owners: vec![0; MEMORY_WORDS],
         budget,
         breakpoints: breakpoints.to_vec(),
+        clearance: 0,
     })
 }
 

@@ -3,7 +3,7 @@
 
 use oracle::report::guarded::{self, Input, Run, Stop};
 use oracle::report::inputs::{cleared, sample, stretches};
-use oracle::report::marks::Marks;
+use oracle::report::owners::Owners;
 use oracle::report::program::bytes;
 use oracle::vm::Machine;
 
@@ -11,8 +11,8 @@ fn run(input: &Input) -> Run {
     guarded::run(input).expect("it is served")
 }
 
-/// A word that moves marks as this one did before document 02, Change 2: then
-/// XOR's marks were those of AND, and those of every shift were kept.
+/// A word that moves owners as this one did before document 02, Change 2: then
+/// XOR's were those of AND, and those of every shift were kept.
 fn before(word: u16) -> u16 {
     match word >> 12 {
         0x8 | 0x9 => word & 0xFF00,
@@ -26,12 +26,11 @@ fn before(word: u16) -> u16 {
 fn passed(input: &Input) -> Vec<u64> {
     let mut machine = Machine::new();
     machine.load_image(&input.image);
-    let marked = std::array::from_fn(|address| input.marks[address] == 1);
-    let mut marks = Marks::at_start(marked);
+    let mut owners = Owners::at_start(std::array::from_fn(|address| input.owners[address]));
     let mut step = || {
         let word = machine.memory[usize::from(machine.pc)];
-        let hidden = marks.hide_the_test_of(word);
-        marks.follow(before(word));
+        let hidden = owners.hide_the_test_of(word, input.clearance);
+        owners.follow(before(word));
         machine.step_instruction();
         hidden
     };
@@ -50,8 +49,8 @@ fn at_the_jump(opcodes: &[u16]) -> [usize; 2] {
             let short = run(&inputs[0]);
             assert_eq!((short.stop, short.executed), (Stop::Budget, 5));
             let stop = run(&inputs[1]).stop;
-            assert!([Stop::Halted, Stop::MarkedTest].contains(&stop));
-            counts[0] += usize::from(stop == Stop::MarkedTest);
+            assert!([Stop::Halted, Stop::HiddenTest].contains(&stop));
+            counts[0] += usize::from(stop == Stop::HiddenTest);
             counts[1] += passed(&inputs[1]).len();
         }
     }
@@ -79,7 +78,7 @@ fn chosen_words() {
 
 #[test]
 fn the_sample_has_both() {
-    let (halted, hidden) = (Stop::Halted, Stop::MarkedTest);
+    let (halted, hidden) = (Stop::Halted, Stop::HiddenTest);
     let due = [
         (0xC111, halted),
         (0xC112, hidden),
@@ -106,7 +105,7 @@ fn pairs_go_on_or_stop() {
     for number in 0..cleared::PAIR_CASES {
         let input = &cleared::pairs(number)[0];
         let passes = !passed(input).is_empty();
-        let stops = run(input).stop == Stop::MarkedTest;
+        let stops = run(input).stop == Stop::HiddenTest;
         passing += usize::from(passes);
         stopping += usize::from(stops);
         both += usize::from(passes && stops);

@@ -179,18 +179,24 @@ fn the_step_report() {
     }
 }
 
-/// Kind 02, open and marked.
+/// Kind 02: without owners, with such as the reader may see, and hidden.
 #[test]
 fn the_report() {
     for (word, text) in ENDING.iter().chain(&PLAIN) {
-        let starting = |marked: &[u8]| {
-            let report = report(&input(&[*word], marked, 0)).expect("it is served");
-            report[13..13 + 37].to_vec()
+        let starting = |owners: u8| {
+            let mut input = input(&[*word], &[], 0);
+            (input.owners[0], input.clearance) = (owners, 0x06);
+            let report = report(&input).expect("it is served");
+            report[14..14 + 37].to_vec()
         };
         let [high, low] = word.to_be_bytes();
-        let open = [&[2, 0, 0, high, low][..], &padded(text)].concat();
-        assert_eq!(starting(&[]), open);
-        assert_eq!(starting(&[0]), [&[2, 0, 1][..], &[0; 34]].concat());
+        for owners in [0x00, 0x02, 0x06] {
+            let shown = [&[2, 0, owners, high, low][..], &padded(text)].concat();
+            assert_eq!(starting(owners), shown);
+        }
+        for owners in [0x01, 0x07, 0xF9] {
+            assert_eq!(starting(owners), [&[2, 0, owners][..], &[0; 34]].concat());
+        }
     }
 }
 
@@ -215,16 +221,16 @@ fn readings_and_texts() {
 // -- the samples ------------------------------------------------------------
 
 /// The samples that are kept beside the programs meet such words: in lines with
-/// a label and without, open and marked, and by both engines.
+/// a label and without, open and hidden, and by both engines.
 #[test]
 fn the_samples() {
     let listing = sample::listing();
     assert!(listing.contains("\n        .word 7051                ; 05  7051\n"));
     assert!(listing.contains("\nL09:    .word 2F12                ; 09  2F12\n"));
     let input = invented();
-    let loose = input.image.iter().zip(&input.marks);
+    let loose = input.image.iter().zip(&input.owners);
     let loose: Vec<_> = loose.filter(|(word, _)| is_loose(**word)).collect();
-    assert_eq!(loose, [(&0x2F21, &0), (&0xEABC, &1)]);
+    assert_eq!(loose, [(&0x2F21, &0), (&0xEABC, &0x08)]);
     for step in [Command::Step, Command::Direct] {
         let parts = program::parts(&calls_sample());
         let steps = parts

@@ -1,13 +1,16 @@
 //! The model of the guarded run, of its report and of the report program, held
 //! to sentences of document 01, and to document 02, Changes 2 and 6, by answers that
-//! are written out here. `hidden_words.rs` has more of Change 6.
+//! are written out here. `hidden_words.rs` has more of Change 6, `owners.rs` has Change 7.
+
+mod records;
 
 use oracle::record;
 use oracle::report::bytes::LONGEST;
 use oracle::report::guarded::{self, Input, Run, Stop};
-use oracle::report::inputs::examples::{self, input, marks_at, with_word_10};
+use oracle::report::inputs::examples::{self, input, owners_at, with_word_10};
 use oracle::report::inputs::{self, cleared, pairs, sample, Relation, FAMILIES};
 use oracle::report::program::{answer, bytes, refused, DECIDING};
+use records::{counts, end, fault, of_kind, records, text};
 
 const HALT: u16 = 0xE000;
 
@@ -17,64 +20,6 @@ fn run(input: &Input) -> Run {
 
 fn report(input: &Input) -> Vec<u8> {
     oracle::report::bytes::report(input).expect("it is served")
-}
-
-/// The bytes of a record of each kind, its kind among them.
-fn record_length(kind: u8) -> usize {
-    match kind {
-        1 => 13,
-        2 => 37,
-        3 | 7 => 2,
-        4 => 43,
-        5 | 6 => 5,
-        8 => 45,
-        0x0A => 3,
-        _ => panic!("no record has the kind {kind}"),
-    }
-}
-
-/// The records of a report.
-fn records(report: &[u8]) -> Vec<&[u8]> {
-    let mut rest = report;
-    let mut records = Vec::new();
-    while let Some(kind) = rest.first() {
-        let (record, behind) = rest.split_at(record_length(*kind));
-        records.push(record);
-        rest = behind;
-    }
-    records
-}
-
-/// The records of one kind.
-fn of_kind(report: &[u8], kind: u8) -> Vec<&[u8]> {
-    let mut records = records(report);
-    records.retain(|record| record[0] == kind);
-    records
-}
-
-fn text(text: &str) -> Vec<u8> {
-    let mut bytes = text.as_bytes().to_vec();
-    bytes.resize(32, 0);
-    bytes
-}
-
-/// The end's counts: instructions, micro operations, bus reads, bus writes.
-fn counts(report: &[u8]) -> [u64; 4] {
-    let end = of_kind(report, 8)[0];
-    std::array::from_fn(|index| {
-        let at = 9 + 8 * index;
-        u64::from_be_bytes(end[at..at + 8].try_into().unwrap())
-    })
-}
-
-/// The stop, PC, IR, MAR, and MDR behind its mark.
-fn end(report: &[u8]) -> [u8; 8] {
-    of_kind(report, 8)[0][1..9].try_into().unwrap()
-}
-
-/// The fault's kind, word and address.
-fn fault(report: &[u8]) -> [u8; 4] {
-    of_kind(report, 8)[0][41..].try_into().unwrap()
 }
 
 // -- the examples of section 9 ----------------------------------------------
@@ -91,7 +36,7 @@ fn example_10() {
 #[test]
 fn example_11() {
     let report = report(&examples::example_11());
-    assert_eq!(of_kind(&report, 1)[0][..3], [1, 0, 17]);
+    assert_eq!(of_kind(&report, 9)[0][..3], [9, 0, 17]);
     assert_eq!(of_kind(&report, 5)[1], [5, 1, 0, 0, 5]);
     let words = of_kind(&report, 6);
     assert_eq!(words[0x10], [6, 0x10, 1, 0, 0]);
@@ -127,7 +72,7 @@ fn example_13() {
 #[test]
 fn example_14() {
     let report = report(&examples::example_14());
-    assert_eq!(report.len(), 11_065);
+    assert_eq!(report.len(), 11_066);
     let mut due = vec![8, 2, 1, 0, 0, 0, 0, 0, 0];
     for count in [0u64, 4, 1, 0] {
         due.extend(count.to_be_bytes());
@@ -142,7 +87,7 @@ fn example_14() {
 fn example_15() {
     let [accepted, over] = examples::example_15();
     assert_eq!((accepted.budget, over.budget), (1_000_000, 1_000_001));
-    let head = [1, 0, 1, 0, 0, 0, 0, 0, 0x0F, 0x42, 0x40, 0, 0];
+    let head = [9, 0, 1, 0, 0, 0, 0, 0, 0x0F, 0x42, 0x40, 0, 0, 0];
     assert!(report(&accepted).starts_with(&head));
     assert_eq!(oracle::report::bytes::report(&over), Err(4));
     assert_eq!(answer(&bytes(&over)), b"refused 4\n");
@@ -159,7 +104,7 @@ fn a_small_report() {
     };
     let report = report(&input);
     let found = records(&report);
-    let mut due: Vec<Vec<u8>> = vec![vec![1, 0, 3, 0, 0, 0, 0, 0, 0, 0, 7, 0, 3]];
+    let mut due: Vec<Vec<u8>> = vec![vec![9, 0, 3, 0, 0, 0, 0, 0, 0, 0, 7, 0, 3, 0]];
     let start = |address: u8, mark: u8, word: [u8; 2], shown: &str| {
         [&[2, address, mark][..], &word, &text(shown)].concat()
     };
@@ -212,23 +157,22 @@ fn a_small_report() {
 fn the_longest_report() {
     let input = examples::longest_report();
     let report = report(&input);
-    assert_eq!((LONGEST, report.len()), (33_933, 33_933));
-    let kinds = [1, 2, 3, 4, 5, 6, 7, 8, 0x0A].map(|kind| of_kind(&report, kind).len());
+    assert_eq!((LONGEST, report.len()), (33_934, 33_934));
+    let kinds = [9, 2, 3, 4, 5, 6, 7, 8, 0x0A].map(|kind| of_kind(&report, kind).len());
     assert_eq!(kinds, [1, 256, 256, 512, 16, 256, 256, 1, 1]);
     // 256 stores of seven ticks; the breakpoint is at the address behind FF.
     assert_eq!(counts(&report), [256, 1_792, 256, 256]);
     assert_eq!(end(&report)[..2], [1, 0]);
     // The oldest of 512 went first.
     assert_eq!(of_kind(&report, 4)[0][1..9], 1_281u64.to_be_bytes());
-    let hidden = examples::longest_hidden_report();
-    let report = self::report(&hidden);
+    let report = self::report(&examples::longest_hidden_report());
     assert_eq!(end(&report)[..2], [4, 0xFF]);
     assert_eq!(of_kind(&report, 7).len(), 254);
-    let marked = of_kind(&report, 6)
+    let hidden = of_kind(&report, 6)
         .iter()
         .filter(|word| word[2] == 1)
         .count();
-    assert_eq!(marked, 255, "all but the last instruction");
+    assert_eq!(hidden, 255, "all but the last instruction");
     assert!(report.ends_with(&[0x0A, 0, 0xFF]));
 }
 
@@ -249,17 +193,17 @@ fn texts_of_32_bytes() {
 
 /// A hidden word shows nowhere, and neither does what was made of it.
 #[test]
-fn a_marked_value_is_written_0000() {
+fn a_hidden_value_is_written_0000() {
     let report = report(&pairs::value(0, 0x5EC7));
     assert_eq!(
         of_kind(&report, 2)[0x10][1..],
-        [&[0x10, 1][..], &[0; 34]].concat()
+        [&[0x10, 5][..], &[0; 34]].concat()
     );
     for (kind, count) in [(5, 5), (6, 3)] {
         let records = of_kind(&report, kind);
-        let marked: Vec<_> = records.iter().filter(|record| record[2] == 1).collect();
-        assert_eq!(marked.len(), count, "kind {kind}");
-        assert!(marked.iter().all(|record| record[3..] == [0, 0]));
+        let hidden: Vec<_> = records.iter().filter(|record| record[2] == 5).collect();
+        assert_eq!(hidden.len(), count, "kind {kind}");
+        assert!(hidden.iter().all(|record| record[3..] == [0, 0]));
     }
     // What was cleared is open, and 0 all the same.
     assert_eq!(of_kind(&report, 5)[7], [5, 7, 0, 0, 0]);
@@ -285,7 +229,7 @@ fn a_spent_budget_is_a_fault() {
     assert_eq!(fault(&spent(3)), [0; 4]);
 }
 
-// -- marks and stops --------------------------------------------------------
+// -- owners and stops -------------------------------------------------------
 
 #[test]
 fn the_order_of_the_stops() {
@@ -297,15 +241,15 @@ fn the_order_of_the_stops() {
         run(&input).stop
     };
     let hidden = with_word_10(&[0x3110, 0xD105], 7);
-    // A word that is marked and a jump whose test is: the word comes first.
-    assert_eq!(stop(&hidden, &[0x10, 1], 9, &[]), Stop::MarkedWord);
-    assert_eq!(stop(&hidden, &[0x10], 9, &[]), Stop::MarkedTest);
+    // A word that is hidden and a jump whose test is: the word comes first.
+    assert_eq!(stop(&hidden, &[0x10, 1], 9, &[]), Stop::HiddenWord);
+    assert_eq!(stop(&hidden, &[0x10], 9, &[]), Stop::HiddenTest);
     assert_eq!(stop(&hidden, &[0x10, 1], 1, &[]), Stop::Budget);
     assert_eq!(stop(&hidden, &[0x10], 1, &[]), Stop::Budget);
     assert_eq!(stop(&hidden, &[0x10, 1], 1, &[1]), Stop::Breakpoint);
     assert_eq!(stop(&hidden, &[0x10], 1, &[1]), Stop::Breakpoint);
     // Before the first instruction there is no breakpoint.
-    assert_eq!(stop(&hidden, &[0], 9, &[0]), Stop::MarkedWord);
+    assert_eq!(stop(&hidden, &[0], 9, &[0]), Stop::HiddenWord);
     assert_eq!(stop(&hidden, &[0], 0, &[0]), Stop::Budget);
     // A halted machine has ended, whatever stands behind HALT.
     assert_eq!(stop(&[HALT], &[1], 1, &[1]), Stop::Halted);
@@ -314,84 +258,92 @@ fn the_order_of_the_stops() {
     let no_test = with_word_10(&[0x3110, 0xD003, HALT, 0x6111, HALT], 7);
     assert_eq!(stop(&no_test, &[0x10], 9, &[]), Stop::Halted);
     let zero = with_word_10(&[0x3010, 0xD203], 7);
-    assert_eq!(stop(&zero, &[0x10], 9, &[]), Stop::MarkedTest);
+    assert_eq!(stop(&zero, &[0x10], 9, &[]), Stop::HiddenTest);
 }
 
-/// The marks of R1, R2 and MDR, and of word 11, behind LOAD R1, [10] with a
-/// marked word 10, and these instructions.
-fn marks_behind(code: &[u16]) -> [bool; 4] {
-    let image = with_word_10(&[&[0x3110], code].concat(), 0x5EC7);
-    let run = run(&input(&image, &[0x10], 1 + code.len() as u64));
-    assert_eq!(run.stop, Stop::Budget);
-    let marks = run.marks;
-    [
-        marks.registers[1],
-        marks.registers[2],
-        marks.mdr,
-        marks.memory[0x11],
-    ]
+/// Whether R1, R2 and MDR, and word 11, have the owners of word 10 behind LOAD R1, [10]
+/// and these instructions; else they have none. It is the same for every owner byte, and
+/// for every reader who is not kept from the code.
+fn owned_behind(code: &[u16]) -> [bool; 4] {
+    let found = [(1, 0), (0x80, 0), (0xC3, 0x43), (0xC3, 0xC3), (0xFF, 0xFF)].map(|owners| {
+        let image = with_word_10(&[&[0x3110], code].concat(), 0x5EC7);
+        let mut input = input(&image, &[], 1 + code.len() as u64);
+        (input.owners[0x10], input.clearance) = owners;
+        let run = run(&input);
+        assert_eq!(run.stop, Stop::Budget);
+        let found = [
+            run.owners.registers[1],
+            run.owners.registers[2],
+            run.owners.mdr,
+            run.owners.memory[0x11],
+        ];
+        assert!(found.iter().all(|found| [0, owners.0].contains(found)));
+        found.map(|found| found == owners.0)
+    });
+    assert!(found.iter().all(|one| *one == found[0]), "{code:04X?}");
+    found[0]
 }
 
 #[test]
-fn how_instructions_move_marks() {
+fn how_instructions_move_owners() {
     let (open, hidden) = (false, true);
-    assert_eq!(marks_behind(&[]), [hidden, open, hidden, open]);
-    assert_eq!(marks_behind(&[0x1100]), [open, open, open, open]);
-    assert_eq!(marks_behind(&[0x2021]), [hidden, hidden, open, open]);
-    assert_eq!(marks_behind(&[0x2012]), [open, open, open, open]);
-    assert_eq!(marks_behind(&[0x3210]), [hidden, hidden, hidden, open]);
-    assert_eq!(marks_behind(&[0x3111]), [open, open, open, open]);
-    assert_eq!(marks_behind(&[0x4111]), [hidden, open, hidden, hidden]);
-    assert_eq!(marks_behind(&[0x4111, 0x4211]), [hidden, open, open, open]);
+    assert_eq!(owned_behind(&[]), [hidden, open, hidden, open]);
+    assert_eq!(owned_behind(&[0x1100]), [open, open, open, open]);
+    assert_eq!(owned_behind(&[0x2021]), [hidden, hidden, open, open]);
+    assert_eq!(owned_behind(&[0x2012]), [open, open, open, open]);
+    assert_eq!(owned_behind(&[0x3210]), [hidden, hidden, hidden, open]);
+    assert_eq!(owned_behind(&[0x3111]), [open, open, open, open]);
+    assert_eq!(owned_behind(&[0x4111]), [hidden, open, hidden, hidden]);
+    assert_eq!(owned_behind(&[0x4111, 0x4211]), [hidden, open, open, open]);
     assert_eq!(
-        marks_behind(&[0x4111, 0x6000]),
+        owned_behind(&[0x4111, 0x6000]),
         [hidden, open, open, hidden]
     );
     for opcode in [0x6000, 0xA000, 0xB000, 0xC000] {
         for digits in [0x213, 0x231, 0x212, 0x221] {
-            let marks = marks_behind(&[opcode | digits]);
-            assert_eq!(marks, [hidden, hidden, open, open]);
+            let owned = owned_behind(&[opcode | digits]);
+            assert_eq!(owned, [hidden, hidden, open, open]);
         }
-        assert_eq!(marks_behind(&[opcode | 0x233]), [hidden, open, open, open]);
-        assert_eq!(marks_behind(&[opcode | 0x133]), [open, open, open, open]);
+        assert_eq!(owned_behind(&[opcode | 0x233]), [hidden, open, open, open]);
+        assert_eq!(owned_behind(&[opcode | 0x133]), [open, open, open, open]);
     }
     for opcode in [0x6000, 0xA000, 0xB000] {
-        let marks = marks_behind(&[opcode | 0x211]);
-        assert_eq!(marks, [hidden, hidden, open, open]);
+        let owned = owned_behind(&[opcode | 0x211]);
+        assert_eq!(owned, [hidden, hidden, open, open]);
     }
     for keeps in [
         0x7010, 0x8103, 0x810F, 0x9103, 0x910F, 0x7210, 0x6111, 0xC112,
     ] {
-        assert_eq!(marks_behind(&[keeps]), [hidden, open, open, open]);
+        assert_eq!(owned_behind(&[keeps]), [hidden, open, open, open]);
     }
     // In NEGATE and in LOAD y, z it is y that counts, and x that does not.
-    assert_eq!(marks_behind(&[0x7120]), [hidden, open, open, open]);
-    assert_eq!(marks_behind(&[0x2134]), [hidden, open, open, open]);
+    assert_eq!(owned_behind(&[0x7120]), [hidden, open, open, open]);
+    assert_eq!(owned_behind(&[0x2134]), [hidden, open, open, open]);
 }
 
 // -- cleared registers: document 02, Change 2 -------------------------------
 
-/// Only the target loses its mark; MDR is open as behind every fetch.
+/// Only the target loses its owners; MDR has none, as behind every fetch.
 #[test]
-fn how_marks_are_cleared() {
+fn how_owners_are_cleared() {
     let (open, hidden) = (false, true);
     for clears in [0xC111, 0xC122, 0xC100, 0x8110, 0x81FF, 0x9110, 0x91FF] {
-        assert_eq!(marks_behind(&[clears]), [open, open, open, open]);
+        assert_eq!(owned_behind(&[clears]), [open, open, open, open]);
     }
     // R2 alone is opened, whether it was hidden or not, and R1 is hidden as before.
     for clears in [0xC211, 0xC222, 0x8210, 0x92FF] {
-        assert_eq!(marks_behind(&[clears]), [hidden, open, open, open]);
-        let copied = marks_behind(&[0x2021, clears]);
+        assert_eq!(owned_behind(&[clears]), [hidden, open, open, open]);
+        let copied = owned_behind(&[0x2021, clears]);
         assert_eq!(copied, [hidden, open, open, open]);
     }
     // A store of what was cleared opens the word, and one before it does not.
     let stored = [0x4111, 0xC111];
-    assert_eq!(marks_behind(&stored), [open, open, open, hidden]);
+    assert_eq!(owned_behind(&stored), [open, open, open, hidden]);
     let stored_again = [0x4111, 0xC111, 0x4111];
-    assert_eq!(marks_behind(&stored_again), [open, open, open, open]);
+    assert_eq!(owned_behind(&stored_again), [open, open, open, open]);
     // Nothing lasts: what is loaded next is hidden again.
     let loaded_again = [0xC111, 0x3110];
-    assert_eq!(marks_behind(&loaded_again), [hidden, open, hidden, open]);
+    assert_eq!(owned_behind(&loaded_again), [hidden, open, hidden, open]);
 }
 
 /// The stop and PC of a program whose word 10 is hidden, whatever the word is.
@@ -407,7 +359,7 @@ fn stopped(code: &[u16]) -> (Stop, u8) {
 /// The jump is taken, to HALT at 05.
 const TAKEN: (Stop, u8) = (Stop::Halted, 6);
 /// The test of the jump at 02 is hidden.
-const HIDDEN_TEST: (Stop, u8) = (Stop::MarkedTest, 2);
+const HIDDEN_TEST: (Stop, u8) = (Stop::HiddenTest, 2);
 
 /// LOAD [10], one instruction, and a jump to 05.
 fn jumped(load: u16, word: u16, jump: u16) -> (Stop, u8) {
@@ -472,7 +424,7 @@ fn which_register_is_opened() {
 fn the_byte_of_a_shift_counts() {
     let end = |shift: u16| stopped(&[0x1220, 0x3110, shift, 0xD106, HALT, 0, HALT]);
     for shift in [0x8102, 0x9102, 0x8100] {
-        assert_eq!(end(shift), (Stop::MarkedTest, 3), "{shift:04X}");
+        assert_eq!(end(shift), (Stop::HiddenTest, 3), "{shift:04X}");
     }
     for shift in [0x8110, 0x9112, 0x8120] {
         assert_eq!(end(shift), (Stop::Halted, 7), "{shift:04X}");
@@ -506,10 +458,10 @@ fn reports_of_cleared_registers() {
 
 // -- MDR, and code that is written over -------------------------------------
 
-/// Each fetch opens MDR, so its mark shows only where a run ends right behind
+/// Each fetch leaves MDR without owners, so they show only where a run ends right behind
 /// LOAD [yz] or STORE.
 #[test]
-fn the_mark_of_mdr() {
+fn the_owners_of_mdr() {
     let image = with_word_10(&[0x3110, 0x1200, 0x4111, 0x4212, 0x3311, HALT], 0x5EC7);
     let shown = |budget| {
         let report = report(&input(&image, &[0x10], budget));
@@ -541,7 +493,7 @@ fn code_that_is_written_over() {
     let opened = run(&input(&image, &[3], 9));
     assert_eq!((opened.stop, opened.executed), (Stop::Halted, 4));
     let hidden = run(&input(&image, &[0x10], 9));
-    assert_eq!((hidden.stop, hidden.executed), (Stop::MarkedWord, 3));
+    assert_eq!((hidden.stop, hidden.executed), (Stop::HiddenWord, 3));
 }
 
 // -- refusals ---------------------------------------------------------------
@@ -554,7 +506,7 @@ fn refusals_of_the_run() {
         image: vec![HALT; words],
         ..good()
     };
-    let marks = |marks| Input { marks, ..good() };
+    let owners = |owners| Input { owners, ..good() };
     let breakpoints = |count| Input {
         breakpoints: vec![0; count],
         ..good()
@@ -564,27 +516,26 @@ fn refusals_of_the_run() {
         [None, Some(1)]
     );
     assert_eq!(
-        [255, 256, 257].map(|count| refusal(&marks(vec![1; count]))),
-        [Some(2), None, Some(2)]
+        [0, 255, 256, 257].map(|count| refusal(&owners(vec![1; count]))),
+        [Some(2), Some(2), None, Some(2)]
     );
-    assert_eq!(
-        refusal(&marks([marks_at(&[])[1..].to_vec(), vec![2]].concat())),
-        Some(2)
-    );
+    // Every byte is lawful.
+    assert_eq!(refusal(&owners((0..=255).collect())), None);
     assert_eq!(
         [256, 257].map(|count| refusal(&breakpoints(count))),
         [None, Some(3)]
     );
     let mut all = Input {
         image: vec![0; 257],
-        marks: Vec::new(),
+        owners: Vec::new(),
         budget: 1_000_001,
         breakpoints: vec![0; 257],
+        clearance: 0,
     };
     assert_eq!(refusal(&all), Some(1));
     all.image.pop();
     assert_eq!(refusal(&all), Some(2));
-    all.marks = marks_at(&[]);
+    all.owners = owners_at(&[]);
     assert_eq!(refusal(&all), Some(3));
     all.breakpoints.pop();
     assert_eq!(refusal(&all), Some(4));
@@ -592,11 +543,19 @@ fn refusals_of_the_run() {
     assert_eq!(refusal(&all), None);
 }
 
-/// The program's input by its parts; each as it is handed in.
-fn whole(length: u16, words: usize, marks: &[u8], budget: u64, count: u16, more: usize) -> Vec<u8> {
+/// The program's input by its parts; each as it is handed in. The breakpoints and the
+/// clearance are zeros.
+fn whole(
+    length: u16,
+    words: usize,
+    owners: &[u8],
+    budget: u64,
+    count: u16,
+    more: usize,
+) -> Vec<u8> {
     let mut bytes = length.to_be_bytes().to_vec();
     bytes.extend(vec![0xE0; 2 * words]);
-    bytes.extend(marks);
+    bytes.extend(owners);
     bytes.extend(budget.to_be_bytes());
     bytes.extend(count.to_be_bytes());
     bytes.extend(vec![0; more]);
@@ -605,8 +564,8 @@ fn whole(length: u16, words: usize, marks: &[u8], budget: u64, count: u16, more:
 
 #[test]
 fn refusals_of_the_program() {
-    let good = marks_at(&[]);
-    let bad = [&good[1..], &[2]].concat();
+    let good = owners_at(&[]);
+    let others: Vec<u8> = (1..=255).rev().chain([2]).collect();
     let (most, over) = (1_000_000, 1_000_001);
     let is = |number: u8, bytes: &[u8]| assert_eq!(answer(bytes), refused(number));
     assert_eq!(refused(6), b"refused 6\n");
@@ -623,14 +582,12 @@ fn refusals_of_the_program() {
     is(3, &whole(1, 1, &good, most, 0xFFFF, 9));
     is(6, &whole(1, 1, &good, most, 256, 0));
     is(6, &whole(1, 1, &good, most, 256, 255));
-    // Marks are tested only where all are there.
+    is(6, &whole(1, 1, &good, most, 256, 256));
+    // Owners are never refused, whether all are there or not.
     let cut = 2 + 2 + 256;
-    is(
-        6,
-        &whole(1, 1, &[&[2], &good[1..]].concat(), most, 0, 0)[..cut - 1],
-    );
-    is(2, &whole(1, 1, &bad, most, 0, 0)[..cut]);
-    is(2, &whole(1, 1, &bad, over, 257, 0));
+    is(6, &whole(1, 1, &others, most, 0, 0)[..cut - 1]);
+    is(6, &whole(1, 1, &others, most, 0, 0)[..cut]);
+    is(3, &whole(1, 1, &others, over, 257, 0));
     // The budget too, whatever is missing behind it.
     is(6, &whole(1, 1, &good, over, 0, 0)[..cut + 7]);
     is(4, &whole(1, 1, &good, over, 0, 0)[..cut + 8]);
@@ -638,13 +595,23 @@ fn refusals_of_the_program() {
     is(3, &whole(1, 1, &good, over, 257, 0));
     is(4, &whole(1, 1, &good, over, 9, 0));
     is(4, &whole(1, 1, &good, over, 0, 1));
-    // Longer than the counts say.
-    is(6, &whole(1, 1, &good, most, 0, 1));
-    // A word too many moves the parts: its bytes are no marks.
-    is(2, &whole(1, 2, &good, 0, 0, 0));
+    is(4, &whole(1, 1, &good, over, 0, 2));
+    // Without the clearance, and longer than the counts say.
+    is(6, &whole(1, 1, &good, most, 0, 0));
+    is(6, &whole(1, 1, &good, most, 2, 2));
+    is(6, &whole(1, 1, &good, most, 0, 2));
+    is(6, &whole(1, 1, &good, most, 2, 4));
+    // A word too many moves the parts, and one byte is left behind the clearance.
+    is(6, &whole(1, 2, &good, 0, 0, 0));
     is(6, &whole(2, 1, &good, 0, 0, 0));
-    is(6, &whole(256, 256, &good, most, 256, 257));
-    assert_eq!(answer(&whole(1, 1, &good, most, 0, 0)).len(), 11_065);
+    is(6, &whole(256, 256, &good, most, 256, 258));
+    for owners in [good, others] {
+        assert_eq!(&answer(&whole(1, 1, &owners, most, 0, 1))[..2], [9, 0]);
+    }
+    assert_eq!(
+        answer(&whole(1, 1, &owners_at(&[]), most, 0, 1)).len(),
+        11_066
+    );
 }
 
 /// A whole input is refused by the program as by the run itself.
@@ -666,11 +633,11 @@ fn the_program_refuses_as_the_run_does() {
 
 #[test]
 fn so_many_bytes_decide() {
-    assert_eq!(DECIDING, 1_037);
+    assert_eq!(DECIDING, 1_038);
     // One less does not: the longest input that is served, and one byte more.
-    let served = whole(256, 256, &marks_at(&[]), 0, 256, 256);
+    let served = whole(256, 256, &owners_at(&[]), 0, 256, 257);
     let longer = [&served[..], &[0]].concat();
-    assert_eq!(served.len(), 1_036);
+    assert_eq!(served.len(), 1_037);
     assert_ne!(answer(&served), answer(&longer));
     let inputs = [inputs::refused::lengths(), inputs::refused::companies()].concat();
     let damaged = (0..400).map(inputs::refused::damaged);
@@ -717,7 +684,7 @@ fn the_families_are_answered() {
         for number in (0..count).step_by(1 + count / 40) {
             for input in (family.inputs)(number) {
                 let answer = answer(&input);
-                assert!(answer.len() == 10 || (10_893..=LONGEST).contains(&answer.len()));
+                assert!(answer.len() == 10 || (10_894..=LONGEST).contains(&answer.len()));
             }
         }
     }
@@ -733,10 +700,11 @@ fn pairs_differ_in_one_thing() {
             a.image.len() != b.image.len(),
             a.budget != b.budget,
             a.breakpoints != b.breakpoints,
-            a.marks != b.marks,
+            a.owners != b.owners,
+            a.clearance != b.clearance,
             a.image.len() == b.image.len() && a.image != b.image,
         ];
-        let due = [0, 1, 2, 2, 3, 4][number % 6];
+        let due = [0, 1, 2, 2, 3, 4, 5][number % 7];
         assert_eq!(
             differ,
             std::array::from_fn(|thing| thing == due),
@@ -750,7 +718,7 @@ fn pairs_differ_in_one_thing() {
             assert_ne!(*other, case[0]);
             let zipped = case[0].image.iter().zip(&other.image).enumerate();
             let mut differing = zipped.filter(|(_, (a, b))| a != b);
-            assert!(differing.all(|(address, _)| other.marks[address] == 1));
+            assert!(differing.all(|(address, _)| other.owners[address] & !other.clearance != 0));
             let same_words = Input {
                 image: case[0].image.clone(),
                 ..other.clone()
@@ -795,7 +763,7 @@ fn the_sample() {
     }
     assert!(rest.is_empty());
     assert!(lengths.len() >= 40 && lengths.contains(&LONGEST));
-    for number in b"12346" {
+    for number in b"1346" {
         assert!(refusals.contains(number));
     }
     assert!(bytes(&sample::invented())

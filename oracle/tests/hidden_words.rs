@@ -4,9 +4,9 @@
 
 use oracle::report::bytes::{self, LONGEST};
 use oracle::report::guarded::{self, Input, Stop};
-use oracle::report::inputs::examples::{self, input, marks_at, with_word_10};
+use oracle::report::inputs::examples::{self, input, owners_at, with_word_10};
 use oracle::report::inputs::{count_loops, counts, random, sample, Relation, FAMILIES};
-use oracle::report::marks::Marks;
+use oracle::report::owners::{hidden_from, Owners};
 use oracle::report::program::{self, answer, served};
 use oracle::report::totals::{self, Said};
 use oracle::vm::Machine;
@@ -28,13 +28,15 @@ fn ends_in(input: &Input, count: u16) -> bool {
     report(input).ends_with(&last(count))
 }
 
-/// The final words that a report shows as marked. The kinds' lengths are written out, so
-/// that nothing is taken from the model; kind 08 stands before kind 0A, and that is last.
-fn marked_words(report: &[u8]) -> usize {
-    let (mut rest, mut marked, mut last) = (report, 0, 0);
+/// The final words that a report shows to have an owner outside the clearance in its head.
+/// The kinds' lengths are written out, so that nothing is taken from the model; kind 08
+/// stands before kind 0A, and that is last.
+fn hidden_words(report: &[u8]) -> usize {
+    let (mut rest, mut hidden, mut last) = (report, 0, 0);
+    let clearance = report[13];
     while let Some(kind) = rest.first() {
         let length = match kind {
-            1 => 13,
+            9 => 14,
             2 => 37,
             3 | 7 => 2,
             4 => 43,
@@ -43,12 +45,14 @@ fn marked_words(report: &[u8]) -> usize {
             0x0A => 3,
             _ => panic!("no record has the kind {kind}"),
         };
-        assert!(last <= *kind, "kind {kind} stands behind kind {last}");
-        marked += usize::from(*kind == 6 && rest[2] == 1);
-        (last, rest) = (*kind, &rest[length..]);
+        // The head is the first, whatever its kind.
+        let place = if *kind == 9 { 1 } else { *kind };
+        assert!(last <= place, "kind {kind} stands behind kind {last}");
+        hidden += usize::from(*kind == 6 && rest[2] & !clearance != 0);
+        (last, rest) = (place, &rest[length..]);
     }
     assert_eq!(last, 0x0A);
-    marked
+    hidden
 }
 
 // -- document 01's examples -------------------------------------------------
@@ -69,11 +73,12 @@ fn the_examples() {
     }
 }
 
-/// Its whole end, and its length: three bytes more than before the change.
+/// Its whole end, and its length: three bytes more than before Change 6, and one more by
+/// Change 7.
 #[test]
 fn example_14() {
     let report = report(&examples::example_14());
-    assert_eq!(report.len(), 11_065);
+    assert_eq!(report.len(), 11_066);
     let due = [
         [8, 2, 1, 0, 0, 0, 0, 0, 0].to_vec(),
         [0, 0, 0, 0, 0, 0, 0, 0, 0, 0, 0, 0, 0, 0, 0, 4].to_vec(),
@@ -81,14 +86,14 @@ fn example_14() {
         [1, 0, 0, 0].to_vec(),
         [0x0A, 0, 0].to_vec(),
     ];
-    assert_eq!(report[11_017..], due.concat());
+    assert_eq!(report[11_018..], due.concat());
 }
 
 /// The buffer that is due, and a report that fills it.
 #[test]
 fn the_longest_report() {
-    assert_eq!(LONGEST, 33_933);
-    assert_eq!(report(&examples::longest_report()).len(), 33_933);
+    assert_eq!(LONGEST, 33_934);
+    assert_eq!(report(&examples::longest_report()).len(), 33_934);
 }
 
 // -- after each instruction -------------------------------------------------
@@ -193,19 +198,19 @@ fn stores_over_the_code() {
         &[0x3110, 0x4101, 0xD001],
         &[0x10],
         &[1, 1, 2, 2],
-        Stop::MarkedWord,
+        Stop::HiddenWord,
     );
     counts_of(
         &[0x3110, 0x4100, 0xD000],
         &[0x10],
         &[1, 1, 2, 2],
-        Stop::MarkedWord,
+        Stop::HiddenWord,
     );
     counts_of(
         &[0x3110, 0x4103, 0x1200, HALT],
         &[0x10],
         &[1, 1, 2, 2],
-        Stop::MarkedWord,
+        Stop::HiddenWord,
     );
     // Opened, and no instruction from then on.
     counts_of(
@@ -226,7 +231,7 @@ fn registers_and_mdr_are_not_counted() {
     let stopped = |budget| input(&with_word_10(&[0x3110, 0x4111], 7), &[0x10], budget);
     for (budget, count) in [(1, 1), (2, 2)] {
         let run = guarded::run(&stopped(budget)).unwrap();
-        assert!(run.marks.mdr && run.marks.registers[1]);
+        assert_eq!([run.owners.mdr, run.owners.registers[1]], [1, 1]);
         assert!(ends_in(&stopped(budget), count));
     }
 }
@@ -235,14 +240,14 @@ fn registers_and_mdr_are_not_counted() {
 #[test]
 fn counts_at_each_stop() {
     let due = [1, 1, 2];
-    counts_of(&[0x3110, 0x4111, 0xD105], &[0x10], &due, Stop::MarkedTest);
-    counts_of(&[0x3110, 0x4111], &[0x10, 2], &[2, 2, 3], Stop::MarkedWord);
+    counts_of(&[0x3110, 0x4111, 0xD105], &[0x10], &due, Stop::HiddenTest);
+    counts_of(&[0x3110, 0x4111], &[0x10, 2], &[2, 2, 3], Stop::HiddenWord);
     // HALT and words without an opcode begin an instruction more.
     let due = [1, 1, 2, 2];
     counts_of(&[0x3110, 0x4111, HALT], &[0x10], &due, Stop::Halted);
     counts_of(&[0x3110, 0x4111, 0x5000], &[0x10], &due, Stop::Fault);
     counts_of(&[0x3110, 0x4111], &[0x10], &due, Stop::Fault);
-    counts_of(&[HALT], &[0], &[1], Stop::MarkedWord);
+    counts_of(&[HALT], &[0], &[1], Stop::HiddenWord);
     let stopped = Input {
         breakpoints: vec![2],
         ..input(&with_word_10(&[0x3110, 0x4111, HALT], 7), &[0x10], 0)
@@ -255,25 +260,25 @@ fn counts_at_each_stop() {
 fn nearly_all_words_are_hidden() {
     let all_but = |open: &[(usize, u16)]| {
         let mut image = vec![0x5EC7; 256];
-        let mut marks = vec![1; 256];
+        let mut owners = vec![1; 256];
         for (address, word) in open {
-            (image[*address], marks[*address]) = (*word, 0);
+            (image[*address], owners[*address]) = (*word, 0);
         }
         Input {
-            marks,
+            owners,
             ..input(&image, &[], 0)
         }
     };
-    counts(&all_but(&[]), &[256], Stop::MarkedWord);
-    counts(&all_but(&[(1, HALT)]), &[255], Stop::MarkedWord);
+    counts(&all_but(&[]), &[256], Stop::HiddenWord);
+    counts(&all_but(&[(1, HALT)]), &[255], Stop::HiddenWord);
     counts(&all_but(&[(0, HALT)]), &[255, 255], Stop::Halted);
-    counts(&all_but(&[(0, 0x4180)]), &[255, 254], Stop::MarkedWord);
-    counts(&all_but(&[(0, 0x4100)]), &[255, 255], Stop::MarkedWord);
+    counts(&all_but(&[(0, 0x4180)]), &[255, 254], Stop::HiddenWord);
+    counts(&all_but(&[(0, 0x4100)]), &[255, 255], Stop::HiddenWord);
     counts(&all_but(&[(0, 0x4101)]), &[255, 254, 254], Stop::Fault);
     let two = all_but(&[(0, 0x31FF), (1, 0x4100)]);
-    counts(&two, &[254, 254, 255], Stop::MarkedWord);
+    counts(&two, &[254, 254, 255], Stop::HiddenWord);
     let empty = Input {
-        marks: vec![1; 256],
+        owners: vec![1; 256],
         ..input(&[], &[], 9)
     };
     assert!(report(&empty).ends_with(&[0x0A, 0x01, 0x00]));
@@ -311,7 +316,7 @@ fn up_and_down_again() {
 /// then from 00 to its own begin at 03, which is 252 turns.
 #[test]
 fn through_memory() {
-    let (hidden, opened) = ((Stop::MarkedWord, 1_263), (Stop::Fault, 1_264));
+    let (hidden, opened) = ((Stop::HiddenWord, 1_263), (Stop::Fault, 1_264));
     let due = [
         (hidden, 1, 252),
         (opened, 1, 248),
@@ -386,7 +391,7 @@ fn cases(name: &str) -> impl Iterator<Item = Vec<Vec<u8>>> {
 }
 
 /// The families whose cases are one program with several ends.
-const COUNTED: [&str; 9] = [
+const COUNTED: [&str; 10] = [
     "budgets",
     "stretch_ends",
     "count_stores",
@@ -396,10 +401,11 @@ const COUNTED: [&str; 9] = [
     "count_sweeps",
     "count_stretches",
     "count_long",
+    "owner_stores",
 ];
 
 /// Each report ends in the count that the longest run of its case has after as many
-/// instructions, and in as many as its final words are marked.
+/// instructions, and in as many as its final words are hidden.
 fn hold(name: &str) {
     for (number, inputs) in cases(name).enumerate() {
         let due = totals::due(&inputs);
@@ -407,8 +413,8 @@ fn hold(name: &str) {
             let report = answer(bytes);
             let said = Said::by(&report).expect("it is a report");
             assert!(said.is_due(&due), "{name} {number}, {index}: {said:?}");
-            let marked = marked_words(&report) as u64;
-            assert_eq!(said.hidden_words, marked, "{name} {number}, {index}");
+            let hidden = hidden_words(&report) as u64;
+            assert_eq!(said.hidden_words, hidden, "{name} {number}, {index}");
         }
     }
 }
@@ -456,16 +462,16 @@ fn begun_is_read_as_it_is_run() {
 fn stores(input: &Input) -> [usize; 5] {
     let mut machine = Machine::new();
     machine.load_image(&input.image);
-    let marked = std::array::from_fn(|address| input.marks[address] == 1);
-    let mut marks = Marks::at_start(marked);
+    let mut owners = Owners::at_start(std::array::from_fn(|address| input.owners[address]));
+    let is_hidden = |owners| hidden_from(owners, input.clearance);
     let mut found = [0; 5];
     for _ in 0..guarded::run(input).unwrap().executed {
         let word = machine.memory[usize::from(machine.pc)];
         let address = usize::from(word as u8);
-        let before = marks.memory[address];
-        marks.follow(word);
+        let before = is_hidden(owners.memory[address]);
+        owners.follow(word);
         if word >> 12 == 4 {
-            let kind = match (marks.memory[address], before) {
+            let kind = match (is_hidden(owners.memory[address]), before) {
                 (true, false) => 0,
                 (false, true) => 1,
                 (true, true) => 2,
@@ -569,7 +575,7 @@ fn stretches_end_at_many_numbers() {
 
 #[test]
 fn the_samples() {
-    assert!(ends_in(&sample::invented(), 4));
+    assert!(ends_in(&sample::invented(), 5));
     let due = [3, 0, 114, 256];
     for (input, count) in sample::counted().iter().zip(due) {
         assert!(ends_in(input, count), "{count}");
@@ -577,12 +583,12 @@ fn the_samples() {
     }
 }
 
-/// Two inputs that differ in one mark, which the run takes away in both, have reports
+/// Two inputs that differ in one owner, whom the run takes away in both, have reports
 /// whose last records are the same: it is the count at the stop.
 #[test]
 fn the_count_is_that_of_the_stop() {
     let opened = |marked: &[u8]| Input {
-        marks: marks_at(marked),
+        owners: owners_at(marked),
         ..input(&with_word_10(&[0x1105, 0x4110, HALT], 7), &[], 9)
     };
     assert!(ends_in(&opened(&[0x10]), 0) && ends_in(&opened(&[]), 0));

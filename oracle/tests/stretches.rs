@@ -185,7 +185,7 @@ fn guarded_runs_stop_at_their_bounds() {
 /// is none, where a cleared register was stored over a hidden HALT.
 #[test]
 fn cleared_registers_at_the_bounds() {
-    let stops = [Stop::Halted, Stop::Halted, Stop::MarkedTest, Stop::Fault];
+    let stops = [Stop::Halted, Stop::Halted, Stop::HiddenTest, Stop::Fault];
     let bodies = inputs::stretches::BODIES.len();
     let first = inputs::stretches::CLEARED * bodies * BOUNDS;
     assert_eq!(inputs::stretches::END_CASES, first + 4 * bodies * BOUNDS);

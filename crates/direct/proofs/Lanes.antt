@@ -17,7 +17,7 @@ use Rattle.control.specs.declared.control.Fault.{Fault}
 use Rattle.control.specs.declared.control.Operands.{Operands}
 use Rattle.control.specs.declared.counters.Counters.{Counters}
 use Rattle.control.proofs.Lawfuls.{true-false}
-use Rattle.marks.specs.Marks.{Marks, marked, marksOf, mdrMarked, executedMarks, instructionMarks}
+use Rattle.marks.specs.Marks.{Marks, marksOf, mdrMarked, executedMarks, instructionMarks}
 use Rattle.marks.specs.Total.{IsCount}
 use Rattle.marks.specs.Forms.{totalBy}
 use Rattle.marks.proofs.Totals.{total-counts}
@@ -38,8 +38,8 @@ use Rattle.direct.proofs.Tables.{Live, touch-live}
 
 -- ---- the calls of one instruction
 
-pub is-step : (d : Decoded) (w : ℕ) (s : Slots) (k : Work) {o : Operands} {p : ℕ} {n : Noted} {q : Marks} {m r : List ℕ} {c : Counters} {t : ℕ}
-    → t ≡ totalBy d w (s .marks) (s .registerMarks) (s .lane .«hidden_total»)
+pub is-step : (hid : ℕ → Bool) (d : Decoded) (w : ℕ) (s : Slots) (k : Work) {o : Operands} {p : ℕ} {n : Noted} {q : Marks} {m r : List ℕ} {c : Counters} {t : ℕ}
+    → t ≡ totalBy hid d w (s .marks) (s .registerMarks) (s .lane .«hidden_total»)
     → q ≡ executedMarks d w (marksOf (s .marks) (s .registerMarks) 0)
     → o ≡ operands w (s .memory) (s .registers)
     → p ≡ (s .lane .pc + 1) % 2 ^ 8
@@ -48,48 +48,48 @@ pub is-step : (d : Decoded) (w : ℕ) (s : Slots) (k : Work) {o : Operands} {p :
     → m ≡ memoryAfter (k .bus) (s .memory)
     → n ≡ touchSeen (k .bus) (notedOf (s .lane .«touched_len») (s .touched) (s .seen))
     → c ≡ countWhole d (k .bus) (s .lane .counters)
-    → slotsOf (record { counters = c; «touched_len» = n .places .count; alu = k .alu; «hidden_total» = t; pc = k .pc }) m r (n .places .items) (n .seen) (q .memory) (q .registers) ≡ slotStep d w s
+    → slotsOf (record { counters = c; «touched_len» = n .places .count; alu = k .alu; «hidden_total» = t; pc = k .pc }) m r (n .places .items) (n .seen) (q .memory) (q .registers) ≡ slotStep hid d w s
 unfolding slotStep
-is-step d w s k {n = n} {q} et eq eo ep ek er em en ec =
+is-step hid d w s k {n = n} {q} et eq eo ep ek er em en ec =
     let e : k ≡ worked d w ((s .lane .pc + 1) % 2 ^ 8) (s .lane .alu) (operands w (s .memory) (s .registers)) = ek ∙ (λ i. worked d w (ep i) (s .lane .alu) (eo i)) in
     let t = notedOf (s .lane .«touched_len») (s .touched) (s .seen) in
     (λ i. slotsOf (record { counters = ec i; «touched_len» = en i .places .count; alu = k .alu; «hidden_total» = et i; pc = k .pc }) (em i) (er i) (en i .places .items) (en i .seen) (eq i .memory) (eq i .registers))
-    ∙ (λ i. slotsBy d s (e i) (touchSeen (e i .bus) t) (executedMarks d w (marksOf (s .marks) (s .registerMarks) 0)) (totalBy d w (s .marks) (s .registerMarks) (s .lane .«hidden_total»)))
+    ∙ (λ i. slotsBy d s (e i) (touchSeen (e i .bus) t) (executedMarks d w (marksOf (s .marks) (s .registerMarks) 0)) (totalBy hid d w (s .marks) (s .registerMarks) (s .lane .«hidden_total»)))
 
 -- by its opcode, where it does not halt
-pub next-is : (o : Opcode) (w : ℕ) (s : Slots) → halts (Known o) ≡ false → slotNext o w s ≡ slotStep (Known o) w s
-next-is LoadImmediate w s h = refl
-next-is LoadRegister w s h = refl
-next-is LoadMemory w s h = refl
-next-is StoreMemory w s h = refl
-next-is Add w s h = refl
-next-is Negate w s h = refl
-next-is ShiftRight w s h = refl
-next-is ShiftLeft w s h = refl
-next-is And w s h = refl
-next-is Or w s h = refl
-next-is Xor w s h = refl
-next-is Jump w s h = refl
-next-is Halt w s h = absurd (true-false h)
+pub next-is : (hid : ℕ → Bool) (o : Opcode) (w : ℕ) (s : Slots) → halts (Known o) ≡ false → slotNext hid o w s ≡ slotStep hid (Known o) w s
+next-is hid LoadImmediate w s h = refl
+next-is hid LoadRegister w s h = refl
+next-is hid LoadMemory w s h = refl
+next-is hid StoreMemory w s h = refl
+next-is hid Add w s h = refl
+next-is hid Negate w s h = refl
+next-is hid ShiftRight w s h = refl
+next-is hid ShiftLeft w s h = refl
+next-is hid And w s h = refl
+next-is hid Or w s h = refl
+next-is hid Xor w s h = refl
+next-is hid Jump w s h = refl
+next-is hid Halt w s h = absurd (true-false h)
 
 -- ---- the tests before it
 
 -- more are asked for
-pub passes-more : (b : List ℕ) (more : Bool) (s : Slots) → goesOn b more s ≡ true → (more ≡ true) × (goesOn b true s ≡ true)
+pub passes-more : (hid : ℕ → Bool) (b : List ℕ) (more : Bool) (s : Slots) → goesOn hid b more s ≡ true → (more ≡ true) × (goesOn hid b true s ≡ true)
 unfolding passes
-passes-more b true s e = (refl, e)
-passes-more b false s e = absurd (true-false (sym e))
+passes-more hid b true s e = (refl, e)
+passes-more hid b false s e = absurd (true-false (sym e))
 
-pub record Passed (b m w : ℕ) (r : List ℕ) : Type 0 where
+pub record Passed (hid : ℕ → Bool) (b m w : ℕ) (r : List ℕ) : Type 0 where
   pub here : b ≡ 0
-  pub word : marked m ≡ false
-  pub jump : hiddenJump marked w r ≡ false
+  pub word : hid m ≡ false
+  pub jump : hiddenJump hid w r ≡ false
 
-pub passed : (b m w : ℕ) (r : List ℕ) → passes true b m && not (hiddenJump marked w r) ≡ true → Passed b m w r
+pub passed : (hid : ℕ → Bool) (b m w : ℕ) (r : List ℕ) → passes hid true b m && not (hiddenJump hid w r) ≡ true → Passed hid b m w r
 unfolding passes
-passed b m w r e = go (eqb b 0) (marked m) (hiddenJump marked w r) refl refl refl e
+passed hid b m w r e = go (eqb b 0) (hid m) (hiddenJump hid w r) refl refl refl e
   where
-    go : (z h j : Bool) → eqb b 0 ≡ z → marked m ≡ h → hiddenJump marked w r ≡ j → cond z (not h) false && not j ≡ true → Passed b m w r
+    go : (z h j : Bool) → eqb b 0 ≡ z → hid m ≡ h → hiddenJump hid w r ≡ j → cond z (not h) false && not j ≡ true → Passed hid b m w r
     go true false false a x y f = record { here = eqb-true b 0 a; word = x; jump = y }
     go true false true a x y f = absurd (true-false (sym f))
     go true true j a x y f = absurd (true-false (sym f))
@@ -135,7 +135,7 @@ pub record Noting (s : Slots) : Type 0 where
   pub fit : TouchFit (s .lane .«touched_len») (s .touched)
   pub table : Table (take (s .lane .«touched_len») (s .touched)) (s .seen)
 
-module _ (f : Fault) (s : Slots) (t : Noting s) where
+module _ (hid : ℕ → Bool) (f : Fault) (s : Slots) (t : Noting s) where
   abbrev w : ℕ
   w = slotWord s
 
@@ -148,11 +148,11 @@ module _ (f : Fault) (s : Slots) (t : Noting s) where
   live : Live (touchSeen (k .bus) (notedOf (s .lane .«touched_len») (s .touched) (s .seen))) (touchedBy (k .bus) (take (s .lane .«touched_len») (s .touched)))
   live = touch-live (k .bus) (s .lane .«touched_len») (s .touched) (s .seen) (sends d w ((s .lane .pc + 1) % 2 ^ 8) (s .lane .alu) (operands w (s .memory) (s .registers)) refl) (t .fit) (t .table)
 
-  pub step-notes : Noting (slotStep d w s)
+  pub step-notes : Noting (slotStep hid d w s)
   unfolding slotStep
   step-notes = record { fit = live .fit; table = subst (λ (p : List ℕ). Table p (touchSeen (k .bus) (notedOf (s .lane .«touched_len») (s .touched) (s .seen)) .seen)) (sym (live .same)) (live .table) }
 
-  pub step-light : halts d ≡ false → lightIn f (slotStep d w s) ≡ lightStep (lightIn f s)
+  pub step-light : halts d ≡ false → lightIn f (slotStep hid d w s) ≡ lightStep (lightIn f s)
   unfolding slotStep lightStep
   step-light h =
       let r = one-of-sixteen (k .write) (s .registers) (named d w ((s .lane .pc + 1) % 2 ^ 8) (s .lane .alu) (operands w (s .memory) (s .registers)) refl) in
@@ -167,19 +167,19 @@ module _ (f : Fault) (s : Slots) (t : Noting s) where
         touched = live .same i;
       }
 
-  pub step-marks : marksOf (slotStep d w s .marks) (slotStep d w s .registerMarks) 0 ≡ mdrMarked 0 (instructionMarks w (marksIn s))
+  pub step-marks : marksOf (slotStep hid d w s .marks) (slotStep hid d w s .registerMarks) 0 ≡ mdrMarked 0 (instructionMarks w (marksIn s))
   unfolding slotStep instructionMarks
   step-marks = refl
 
-  pub step-total : IsCount (s .marks) (s .lane .«hidden_total») → IsCount (slotStep d w s .marks) (slotStep d w s .lane .«hidden_total»)
+  pub step-total : IsCount hid (s .marks) (s .lane .«hidden_total») → IsCount hid (slotStep hid d w s .marks) (slotStep hid d w s .lane .«hidden_total»)
   unfolding slotStep
-  step-total c = total-counts d w (marksIn s) (s .lane .«hidden_total») c
+  step-total c = total-counts hid d w (marksIn s) (s .lane .«hidden_total») c
 
-  pub step-byte : slotStep d w s .lane .pc < 256
+  pub step-byte : slotStep hid d w s .lane .pc < 256
   unfolding slotStep
   step-byte = stays d w ((s .lane .pc + 1) % 2 ^ 8) (s .lane .alu) (operands w (s .memory) (s .registers)) (omega arith)
 
 -- and leaves room for one instruction less
-pub step-room : (n : ℕ) (s : Slots) → Room (suc n) (s .lane .counters) → Room n (slotStep (decodeWord (slotWord s)) (slotWord s) s .lane .counters)
+pub step-room : (hid : ℕ → Bool) (n : ℕ) (s : Slots) → Room (suc n) (s .lane .counters) → Room n (slotStep hid (decodeWord (slotWord s)) (slotWord s) s .lane .counters)
 unfolding slotStep
-step-room n s r = let w = slotWord s in room-next n (decodeWord w) (worked (decodeWord w) w ((s .lane .pc + 1) % 2 ^ 8) (s .lane .alu) (operands w (s .memory) (s .registers)) .bus) (s .lane .counters) r
+step-room hid n s r = let w = slotWord s in room-next n (decodeWord w) (worked (decodeWord w) w ((s .lane .pc + 1) % 2 ^ 8) (s .lane .alu) (operands w (s .memory) (s .registers)) .bus) (s .lane .counters) r

@@ -13,7 +13,7 @@ use Rattle.isa.specs.declared.opcode.Decoded.{Decoded}
 use Rattle.isa.specs.declared.opcode.Decoded.the-variants.{Known, Unknown}
 use Rattle.isa.specs.Word.{decodeWord}
 use Rattle.control.specs.declared.control.Fault.{Fault}
-use Rattle.marks.specs.Marks.{Marks, marked, marksOf, executedMarks}
+use Rattle.marks.specs.Marks.{Marks, marksOf, executedMarks}
 use Rattle.marks.specs.Forms.{totalBy}
 use Rattle.control.specs.declared.counters.Counters.{Counters}
 use Rattle.control.specs.Count.{counterLimit}
@@ -62,28 +62,28 @@ slotsBy d s k n q t = record {
   registerMarks = q .registers;
 }
 
--- the word w, decoded
-unfoldable pub slotStep : Decoded → ℕ → Slots → Slots
-slotStep d w s =
+-- the word w, decoded; `hid` says which marks hide a value, from here on
+unfoldable pub slotStep : (ℕ → Bool) → Decoded → ℕ → Slots → Slots
+slotStep hid d w s =
     let k = worked d w ((s .lane .pc + 1) % 2 ^ 8) (s .lane .alu) (operands w (s .memory) (s .registers)) in
     slotsBy d s k (touchSeen (k .bus) (notedOf (s .lane .«touched_len») (s .touched) (s .seen))) (executedMarks d w (marksOf (s .marks) (s .registerMarks) 0))
-    (totalBy d w (s .marks) (s .registerMarks) (s .lane .«hidden_total»))
+    (totalBy hid d w (s .marks) (s .registerMarks) (s .lane .«hidden_total»))
 
 -- the same by the opcode; HALT, which never passes, moves nothing
-abbrev pub slotNext : Opcode → ℕ → Slots → Slots
-slotNext LoadImmediate w s = slotStep (Known LoadImmediate) w s
-slotNext LoadRegister w s = slotStep (Known LoadRegister) w s
-slotNext LoadMemory w s = slotStep (Known LoadMemory) w s
-slotNext StoreMemory w s = slotStep (Known StoreMemory) w s
-slotNext Add w s = slotStep (Known Add) w s
-slotNext Negate w s = slotStep (Known Negate) w s
-slotNext ShiftRight w s = slotStep (Known ShiftRight) w s
-slotNext ShiftLeft w s = slotStep (Known ShiftLeft) w s
-slotNext And w s = slotStep (Known And) w s
-slotNext Or w s = slotStep (Known Or) w s
-slotNext Xor w s = slotStep (Known Xor) w s
-slotNext Jump w s = slotStep (Known Jump) w s
-slotNext Halt w s = s
+abbrev pub slotNext : (ℕ → Bool) → Opcode → ℕ → Slots → Slots
+slotNext hid LoadImmediate w s = slotStep hid (Known LoadImmediate) w s
+slotNext hid LoadRegister w s = slotStep hid (Known LoadRegister) w s
+slotNext hid LoadMemory w s = slotStep hid (Known LoadMemory) w s
+slotNext hid StoreMemory w s = slotStep hid (Known StoreMemory) w s
+slotNext hid Add w s = slotStep hid (Known Add) w s
+slotNext hid Negate w s = slotStep hid (Known Negate) w s
+slotNext hid ShiftRight w s = slotStep hid (Known ShiftRight) w s
+slotNext hid ShiftLeft w s = slotStep hid (Known ShiftLeft) w s
+slotNext hid And w s = slotStep hid (Known And) w s
+slotNext hid Or w s = slotStep hid (Known Or) w s
+slotNext hid Xor w s = slotStep hid (Known Xor) w s
+slotNext hid Jump w s = slotStep hid (Known Jump) w s
+slotNext hid Halt w s = s
 
 -- ---- a stretch of them
 
@@ -121,19 +121,19 @@ abbrev pub slotWord : Slots → ℕ
 slotWord s = getD (s .memory) (s .lane .pc) 0
 
 -- whether the next one passes: the table of breakpoints, whether more are asked for
-abbrev pub passesOn : List ℕ → Bool → Slots → Bool
-passesOn b more s = let pc = s .lane .pc in passes more (getD b pc 0) (getD (s .marks) pc 0)
+abbrev pub passesOn : (ℕ → Bool) → List ℕ → Bool → Slots → Bool
+passesOn hid b more s = let pc = s .lane .pc in passes hid more (getD b pc 0) (getD (s .marks) pc 0)
 
 -- and is no hidden jump
-abbrev pub goesOn : List ℕ → Bool → Slots → Bool
-goesOn b more s = passesOn b more s && not (hiddenJump marked (slotWord s) (s .registerMarks))
+abbrev pub goesOn : (ℕ → Bool) → List ℕ → Bool → Slots → Bool
+goesOn hid b more s = passesOn hid b more s && not (hiddenJump hid (slotWord s) (s .registerMarks))
 
 -- as long as they pass and run on, at most n more where k were made
-unfoldable pub stretch : List ℕ → ℕ → ℕ → Slots → Stretch
-stretch b zero k s = stretched k s
-stretch b (suc n) k s =
+unfoldable pub stretch : (ℕ → Bool) → List ℕ → ℕ → ℕ → Slots → Stretch
+stretch hid b zero k s = stretched k s
+stretch hid b (suc n) k s =
     let w = slotWord s in
-    onlyIf (goesOn b true s && counts (lastingOf (decodeWord w))) (stretched k s) (λ u. stretch b n (k + 1) (slotStep (decodeWord w) w s))
+    onlyIf (goesOn hid b true s && counts (lastingOf (decodeWord w))) (stretched k s) (λ u. stretch hid b n (k + 1) (slotStep hid (decodeWord w) w s))
 
 -- ---- stretch after stretch, each made whole: what is kept stays one behind
 
@@ -180,21 +180,21 @@ abbrev pub aheadAtLast : Made → Lent → Lent → Lent → Lent → Lent → A
 aheadAtLast r m w t x y = aheadOf r (now (m .exit)) (now (w .exit)) (now (t .exit)) (now (x .exit)) (now (y .exit))
 
 -- at most n stretches more, where k instructions were made: the table of breakpoints
-unfoldable pub leads : List ℕ → ℕ → Ahead → ℕ → Slots → Ahead
-leads b zero kept k s = kept
-leads b (suc n) kept k s =
-    let t = stretch b (lengthFor (s .lane .counters)) 0 s in
-    onlyIf (eqb (t .made) stretchLength) kept (λ u. leads b n (ahead k s) (k + stretchLength) (t .slots))
+unfoldable pub leads : (ℕ → Bool) → List ℕ → ℕ → Ahead → ℕ → Slots → Ahead
+leads hid b zero kept k s = kept
+leads hid b (suc n) kept k s =
+    let t = stretch hid b (lengthFor (s .lane .counters)) 0 s in
+    onlyIf (eqb (t .made) stretchLength) kept (λ u. leads hid b n (ahead k s) (k + stretchLength) (t .slots))
 
 -- at most n instructions, with these breakpoints
-unfoldable pub forward : List ℕ → ℕ → Lane → List ℕ → List ℕ → List ℕ → List ℕ → List ℕ → Ahead
-forward b n s m r t x y =
+unfoldable pub forward : (ℕ → Bool) → List ℕ → ℕ → Lane → List ℕ → List ℕ → List ℕ → List ℕ → List ℕ → Ahead
+forward hid b n s m r t x y =
     let start = slotsOf s m r t (tableOf (take (s .«touched_len») t)) x y in
-    leads (tableOf b) (n / stretchLength) (ahead 0 start) 0 start
+    leads hid (tableOf b) (n / stretchLength) (ahead 0 start) 0 start
 
 -- the same on the arrays that came to a call
-abbrev pub forwardFrom : List ℕ → ℕ → Lane → Lent → Lent → Lent → Lent → Lent → Ahead
-forwardFrom b n s m r t x y = forward b n s (now (m .entry)) (now (r .entry)) (now (t .entry)) (now (x .entry)) (now (y .entry))
+abbrev pub forwardFrom : (ℕ → Bool) → List ℕ → ℕ → Lane → Lent → Lent → Lent → Lent → Lent → Ahead
+forwardFrom hid b n s m r t x y = forward hid b n s (now (m .entry)) (now (r .entry)) (now (t .entry)) (now (x .entry)) (now (y .entry))
 
 -- ---- the light machine, with the fault that it has, and its marks
 

@@ -1,5 +1,6 @@
 // The instructions of a run that its end does not show: made without their records, stretch after stretch.
 ghost use mathlib.Core.Path.{_≡_};
+ghost use Rattle.marks.specs.Owners.{hiddenFrom};
 ghost use Rattle.direct.specs.Lane.{lengthFor, aheadAtLast, forwardFrom};
 use crate::light::Lane;
 use crate::light::Made;
@@ -41,6 +42,7 @@ fn stretch_length(k: Counters) -> Begun
 // one stretch behind, so that the instructions that are left write the trace. A run without marks hands in marks
 // of 0.
 pub fn light_forward(
+    clearance: u8,
     from: Lane,
     limit: Begun,
     breakpoints: &[u8],
@@ -51,7 +53,7 @@ pub fn light_forward(
     register_marks: &mut [u8; REGISTER_COUNT],
 ) -> Made
     ensures { λ r. ⌜ aheadAtLast r memory registers touched marks «register_marks»
-        ≡ forwardFrom (now (breakpoints .entry)) (limit .0) from memory registers touched marks «register_marks» ⌝ }
+        ≡ forwardFrom (hiddenFrom clearance) (now (breakpoints .entry)) (limit .0) from memory registers touched marks «register_marks» ⌝ }
 {
     let most = limit.0;
     let mut left = most / STRETCH;
@@ -87,6 +89,7 @@ pub fn light_forward(
         let counters = s.counters;
         let length = stretch_length(counters);
         let m = light_stretch(
+            clearance,
             s,
             length,
             &breaks,

@@ -1,5 +1,6 @@
 // Instructions without their records: what is small by value, the arrays lent, the marks beside the words.
 ghost use mathlib.Core.Path.{_≡_};
+ghost use Rattle.marks.specs.Owners.{hiddenFrom};
 ghost use Rattle.direct.specs.Lane.{came, left, slotStep, slotNext, lastingOf, stretched, stretch};
 use crate::table::touch_seen;
 use crate::work::count_whole;
@@ -32,6 +33,7 @@ pub struct Lane {
 
 // One instruction, by its word and what that decodes to.
 fn light_instruction(
+    clearance: u8,
     decoded: Decoded,
     word: u16,
     s: Lane,
@@ -43,9 +45,16 @@ fn light_instruction(
     register_marks: &mut [u8; REGISTER_COUNT],
 ) -> Lane
     ensures { λ r. ⌜ left r memory registers touched seen marks «register_marks»
-        ≡ slotStep decoded word (came s memory registers touched seen marks «register_marks») ⌝ }
+        ≡ slotStep (hiddenFrom clearance) decoded word (came s memory registers touched seen marks «register_marks») ⌝ }
 {
-    let total = total_decoded(decoded, word, s.hidden_total, marks, register_marks);
+    let total = total_decoded(
+        clearance,
+        decoded,
+        word,
+        s.hidden_total,
+        marks,
+        register_marks,
+    );
     mark_decoded(decoded, word, marks, register_marks);
     let o = read_operands(word, memory, registers);
     let next = std::num::wrapping_add_u8(s.pc, 1);
@@ -70,6 +79,7 @@ fn light_instruction(
 // The same, with a call for each opcode: the compiler then makes code for each, and asks for the opcode once. HALT
 // never passes; that it has no call keeps the compiler from making the calls one again.
 fn light_known(
+    clearance: u8,
     opcode: Opcode,
     word: u16,
     s: Lane,
@@ -81,10 +91,11 @@ fn light_known(
     register_marks: &mut [u8; REGISTER_COUNT],
 ) -> Lane
     ensures { λ r. ⌜ left r memory registers touched seen marks «register_marks»
-        ≡ slotNext opcode word (came s memory registers touched seen marks «register_marks») ⌝ }
+        ≡ slotNext (hiddenFrom clearance) opcode word (came s memory registers touched seen marks «register_marks») ⌝ }
 {
     match opcode {
         Opcode::LoadImmediate => light_instruction(
+            clearance,
             Decoded::Known(Opcode::LoadImmediate),
             word,
             s,
@@ -96,6 +107,7 @@ fn light_known(
             register_marks,
         ),
         Opcode::LoadRegister => light_instruction(
+            clearance,
             Decoded::Known(Opcode::LoadRegister),
             word,
             s,
@@ -107,6 +119,7 @@ fn light_known(
             register_marks,
         ),
         Opcode::LoadMemory => light_instruction(
+            clearance,
             Decoded::Known(Opcode::LoadMemory),
             word,
             s,
@@ -118,6 +131,7 @@ fn light_known(
             register_marks,
         ),
         Opcode::StoreMemory => light_instruction(
+            clearance,
             Decoded::Known(Opcode::StoreMemory),
             word,
             s,
@@ -129,6 +143,7 @@ fn light_known(
             register_marks,
         ),
         Opcode::Add => light_instruction(
+            clearance,
             Decoded::Known(Opcode::Add),
             word,
             s,
@@ -140,6 +155,7 @@ fn light_known(
             register_marks,
         ),
         Opcode::Negate => light_instruction(
+            clearance,
             Decoded::Known(Opcode::Negate),
             word,
             s,
@@ -151,6 +167,7 @@ fn light_known(
             register_marks,
         ),
         Opcode::ShiftRight => light_instruction(
+            clearance,
             Decoded::Known(Opcode::ShiftRight),
             word,
             s,
@@ -162,6 +179,7 @@ fn light_known(
             register_marks,
         ),
         Opcode::ShiftLeft => light_instruction(
+            clearance,
             Decoded::Known(Opcode::ShiftLeft),
             word,
             s,
@@ -173,6 +191,7 @@ fn light_known(
             register_marks,
         ),
         Opcode::And => light_instruction(
+            clearance,
             Decoded::Known(Opcode::And),
             word,
             s,
@@ -184,6 +203,7 @@ fn light_known(
             register_marks,
         ),
         Opcode::Or => light_instruction(
+            clearance,
             Decoded::Known(Opcode::Or),
             word,
             s,
@@ -195,6 +215,7 @@ fn light_known(
             register_marks,
         ),
         Opcode::Xor => light_instruction(
+            clearance,
             Decoded::Known(Opcode::Xor),
             word,
             s,
@@ -206,6 +227,7 @@ fn light_known(
             register_marks,
         ),
         Opcode::Jump => light_instruction(
+            clearance,
             Decoded::Known(Opcode::Jump),
             word,
             s,
@@ -253,6 +275,7 @@ fn lasting(decoded: Decoded) -> Decoded
 // Instructions as long as they pass and run on, at most `limit`; `breaks` is the table of breakpoints. A hidden jump is
 // asked for behind the opcode, so that no other instruction is.
 pub(crate) fn light_stretch(
+    clearance: u8,
     from: Lane,
     limit: Begun,
     breaks: &[u8; MEMORY_WORDS],
@@ -264,7 +287,7 @@ pub(crate) fn light_stretch(
     register_marks: &mut [u8; REGISTER_COUNT],
 ) -> Made
     ensures { λ r. ⌜ stretched (r .made .0) (left (r .lane) memory registers touched seen marks «register_marks»)
-        ≡ stretch (now (breaks .entry)) (limit .0) 0 (came from memory registers touched seen marks «register_marks») ⌝ }
+        ≡ stretch (hiddenFrom clearance) (now (breaks .entry)) (limit .0) 0 (came from memory registers touched seen marks «register_marks») ⌝ }
 {
     let most = limit.0;
     let mut s = from;
@@ -272,7 +295,7 @@ pub(crate) fn light_stretch(
     loop {
         let at = s.pc as usize;
         let word = memory[at];
-        let go = may_go(made < most, breaks[at], marks[at]);
+        let go = may_go(clearance, made < most, breaks[at], marks[at]);
         if !go {
             return Made {
                 lane: s,
@@ -280,7 +303,7 @@ pub(crate) fn light_stretch(
             };
         }
         let found = Instruction::from_word(word).opcode();
-        let hidden = hidden_by(found, word, register_marks);
+        let hidden = hidden_by(clearance, found, word, register_marks);
         if hidden {
             return Made {
                 lane: s,
@@ -295,6 +318,7 @@ pub(crate) fn light_stretch(
             };
         };
         let next = light_known(
+            clearance,
             opcode,
             word,
             s,

@@ -4,7 +4,6 @@
 use Prim.Native.Nat.{ℕ}
 use mathlib.Core.Bool.{Bool, false, cond, not}
 use lib.Dec.{eqb}
-use Rattle.marks.specs.Marks.{marked}
 use Rattle.guard.specs.declared.stops.RunStop.{RunStop}
 use Rattle.guard.specs.declared.stops.RunVerdict.{RunVerdict}
 use Rattle.guard.specs.declared.stops.RunVerdict.the-variants.{Go as Runs, Stop as Ends}
@@ -22,7 +21,7 @@ abbrev pub verdictOf : Judged → Verdict GuardedStop
 verdictOf Go = go
 verdictOf (Stop c) = stop c
 
--- both, but for their budgets, the counters and a hidden jump (02, Change 11): whether more are asked for, the table of breakpoints at the
--- instruction's address, the word's mark
-unfoldable pub passes : Bool → ℕ → ℕ → Bool
-passes more b m = cond more (cond (eqb b 0) (not (marked m)) false) false
+-- both, but for their budgets, the counters and a hidden jump (02, Change 11): which marks hide, whether more are asked for, the table of breakpoints
+-- at the instruction's address, the word's mark
+unfoldable pub passes : (ℕ → Bool) → Bool → ℕ → ℕ → Bool
+passes hid more b m = cond more (cond (eqb b 0) (not (hid m)) false) false

@@ -3,7 +3,7 @@ ghost use mathlib.Core.Path.{_≡_};
 ghost use Prim.Native.Nat.{_-_};
 ghost use lib.Dec.{eqb};
 ghost use Rattle.control.specs.Count.{overCounted};
-ghost use Rattle.marks.specs.Marks.{marked};
+ghost use Rattle.marks.specs.Owners.{hiddenFrom};
 ghost use Rattle.guard.specs.Stops.{reached, haltStop, verdictIf, runCode, refusalIn, numberIn, addressIn};
 ghost use Rattle.guard.specs.Stops.{stopNumber, haltedStop, isJump, hiddenBy, hiddenJump, guardIf};
 ghost use Rattle.guard.specs.Forms.{runVerdictOf, verdictOf, passes};
@@ -16,7 +16,7 @@ use isa::Decoded;
 use isa::Instruction;
 use isa::Opcode;
 use isa::REGISTER_COUNT;
-use marks::hides;
+use marks::is_hidden;
 
 // A number of instructions begun.
 pub struct Begun(pub u64);
@@ -192,8 +192,13 @@ fn is_jump(decoded: Decoded) -> bool
 }
 
 // Whether an instruction is a jump that would test a hidden register; one on R0 tests none.
-pub fn hidden_by(decoded: Decoded, word: u16, registers: &[u8; REGISTER_COUNT]) -> bool
-    ensures { λ r. ⌜ r ≡ hiddenBy marked decoded word (now (registers .entry)) ⌝ }
+pub fn hidden_by(
+    clearance: u8,
+    decoded: Decoded,
+    word: u16,
+    registers: &[u8; REGISTER_COUNT],
+) -> bool
+    ensures { λ r. ⌜ r ≡ hiddenBy (hiddenFrom clearance) decoded word (now (registers .entry)) ⌝ }
 {
     let jump = is_jump(decoded);
     if !jump {
@@ -203,19 +208,19 @@ pub fn hidden_by(decoded: Decoded, word: u16, registers: &[u8; REGISTER_COUNT]) 
     if x == 0 {
         return false;
     }
-    if hides(registers[x]) {
+    if is_hidden(clearance, registers[x]) {
         return true;
     }
-    hides(registers[0])
+    is_hidden(clearance, registers[0])
 }
 
 // The same of a word.
-fn hidden_jump(word: u16, registers: &[u8; REGISTER_COUNT]) -> bool
-    ensures { λ r. ⌜ r ≡ hiddenJump marked word (now (registers .entry)) ⌝ }
+fn hidden_jump(clearance: u8, word: u16, registers: &[u8; REGISTER_COUNT]) -> bool
+    ensures { λ r. ⌜ r ≡ hiddenJump (hiddenFrom clearance) word (now (registers .entry)) ⌝ }
 {
     let i = Instruction::from_word(word);
     let decoded = i.opcode();
-    hidden_by(decoded, word, registers)
+    hidden_by(clearance, decoded, word, registers)
 }
 
 // Whether a guarded run begins the next instruction, or why not.
@@ -224,8 +229,10 @@ pub enum Verdict {
     Stop(GuardedStop),
 }
 
-// The five tests before an instruction: its word, that word's mark, the marks of the registers.
+// The five tests before an instruction: the reader's clearance, the instruction's word, that word's mark, the marks of
+// the registers.
 pub fn judge(
+    clearance: u8,
     state: State,
     breakpoints: &[u8],
     begun: Begun,
@@ -235,7 +242,7 @@ pub fn judge(
     registers: &[u8; REGISTER_COUNT],
 ) -> Verdict
     ensures { λ r. ⌜ verdictOf r ≡ guardIf (state .control .halted) (reached (now (breakpoints .entry)) (begun .0) (state .control .pc))
-        (eqb (budget .0 - begun .0) 0) (marked mark) (hiddenJump marked word (now (registers .entry))) (state .fault) ⌝ }
+        (eqb (budget .0 - begun .0) 0) (hiddenFrom clearance mark) (hiddenJump (hiddenFrom clearance) word (now (registers .entry))) (state .fault) ⌝ }
 {
     if state.control.halted {
         let fault = state.fault;
@@ -249,10 +256,10 @@ pub fn judge(
     if budget.0 <= begun.0 {
         return Verdict::Stop(GuardedStop::Budget);
     }
-    if hides(mark) {
+    if is_hidden(clearance, mark) {
         return Verdict::Stop(GuardedStop::HiddenWord);
     }
-    let hidden = hidden_jump(word, registers);
+    let hidden = hidden_jump(clearance, word, registers);
     if hidden {
         return Verdict::Stop(GuardedStop::HiddenJump);
     }
@@ -261,8 +268,8 @@ pub fn judge(
 
 // What is tested before an instruction of a run and of a guarded run, but for the budget, the counters and a hidden
 // jump: whether more are asked for, the table of breakpoints at its address, its mark.
-pub fn may_go(more: bool, break_here: u8, mark_here: u8) -> bool
-    ensures { λ r. ⌜ r ≡ passes more «break_here» «mark_here» ⌝ }
+pub fn may_go(clearance: u8, more: bool, break_here: u8, mark_here: u8) -> bool
+    ensures { λ r. ⌜ r ≡ passes (hiddenFrom clearance) more «break_here» «mark_here» ⌝ }
 {
     if !more {
         return false;
@@ -270,5 +277,5 @@ pub fn may_go(more: bool, break_here: u8, mark_here: u8) -> bool
     if break_here != 0 {
         return false;
     }
-    !hides(mark_here)
+    !is_hidden(clearance, mark_here)
 }

@@ -14,7 +14,7 @@ use Rattle.isa.specs.declared.opcode.Decoded.{Decoded}
 use Rattle.isa.specs.declared.opcode.Decoded.the-variants.{Known, Unknown}
 use Rattle.isa.specs.Word.{decodeWord, digitX}
 use Rattle.control.specs.Address.{reachedAddress}
-use Rattle.marks.specs.Marks.{Marks, marked, registerMark, mdrMarked, executedMarks, instructionMarks}
+use Rattle.marks.specs.Marks.{Marks, registerMark, mdrMarked, executedMarks, instructionMarks}
 use Rattle.marks.specs.Total.{onStore, hidden, hiddenCount, totalAfter, IsCount}
 use Rattle.marks.specs.Forms.{totalBy}
 
@@ -94,12 +94,12 @@ module _ (hid : ℕ → Bool) where
 
 -- ---- the code's total, which has 16 bits
 
-module _ (d : Decoded) (w : ℕ) (k : Marks) (t : ℕ) (c : IsCount (k .memory) t) where
-  total-by : totalBy d w (k .memory) (k .registers) t ≡ totalAfter marked d w k t
+module _ (hid : ℕ → Bool) (d : Decoded) (w : ℕ) (k : Marks) (t : ℕ) (c : IsCount hid (k .memory) t) where
+  total-by : totalBy hid d w (k .memory) (k .registers) t ≡ totalAfter hid d w k t
   total-by =
       let at : reachedAddress w < length (k .memory) = omega (arith, c .full) in
-      ap (onStore d t) (omega (arith, c .count, c .full, count-few marked (k .memory), count-has marked (k .memory) (reachedAddress w) at, hidden-few marked (getD (k .registers) (digitX w) 0)))
+      ap (onStore d t) (omega (arith, c .count, c .full, count-few hid (k .memory), count-has hid (k .memory) (reachedAddress w) at, hidden-few hid (getD (k .registers) (digitX w) 0)))
 
   -- it stays the count
-  pub total-counts : IsCount (executedMarks d w (mdrMarked 0 k) .memory) (totalBy d w (k .memory) (k .registers) t)
-  total-counts = let r = counts marked w k (c .full) d in record { full = r .long ∙ c .full; count = total-by ∙ ap (totalAfter marked d w k) (c .count) ∙ r .total }
+  pub total-counts : IsCount hid (executedMarks d w (mdrMarked 0 k) .memory) (totalBy hid d w (k .memory) (k .registers) t)
+  total-counts = let r = counts hid w k (c .full) d in record { full = r .long ∙ c .full; count = total-by ∙ ap (totalAfter hid d w k) (c .count) ∙ r .total }

@@ -12,7 +12,7 @@ use Rattle.isa.specs.declared.opcode.Decoded.the-variants.{Known, Unknown}
 use Rattle.isa.specs.Word.{digitX}
 use Rattle.control.specs.Address.{reachedAddress}
 use Rattle.marks.specs.declared.Moved.{Moved}
-use Rattle.marks.specs.Marks.{marked, sameSources, shiftsOut}
+use Rattle.marks.specs.Marks.{sameSources, shiftsOut}
 use Rattle.marks.specs.Total.{hidden, onStore}
 
 -- a register's mark alone, y's or x's: its mark, and the word's own
@@ -48,10 +48,11 @@ moves Unknown w x y z j m = oneMark false x m
 abbrev pub openedX : Bool → ℕ → List ℕ → List ℕ
 openedX c w r = cond c (set r (digitX w) 0) r
 
--- a total of 16 bits where one word's mark is changed: the total, its old mark, its new one
-abbrev pub retotalled : ℕ → ℕ → ℕ → ℕ
-retotalled t old new = (t + 2 ^ 16 + hidden marked new - hidden marked old) % 2 ^ 16
+module _ (hid : ℕ → Bool) where
+  -- a total of 16 bits where one word's mark is changed: the total, its old mark, its new one
+  abbrev pub retotalled : ℕ → ℕ → ℕ → ℕ
+  retotalled t old new = (t + 2 ^ 16 + hidden hid new - hidden hid old) % 2 ^ 16
 
--- after the instruction w, decoded: the marks of memory and of the registers before it, the total
-abbrev pub totalBy : Decoded → ℕ → List ℕ → List ℕ → ℕ → ℕ
-totalBy d w m r t = onStore d t (retotalled t (getD m (reachedAddress w) 0) (getD r (digitX w) 0))
+  -- after the instruction w, decoded: the marks of memory and of the registers before it, the total
+  abbrev pub totalBy : Decoded → ℕ → List ℕ → List ℕ → ℕ → ℕ
+  totalBy d w m r t = onStore d t (retotalled t (getD m (reachedAddress w) 0) (getD r (digitX w) 0))

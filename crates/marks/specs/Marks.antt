@@ -1,7 +1,7 @@
--- Marks (01, section 5; 02, Change 2): which words of memory, which registers, and whether MDR are hidden, and how an instruction moves them.
+-- Marks (01, section 5; 02, Changes 2 and 7): the owners of each word of memory, of each register and of MDR, and how an instruction moves them.
 -- Assumes nothing.
-use Prim.Native.Nat.{ℕ, max}
-use mathlib.Core.Bool.{Bool, cond, not}
+use Prim.Native.Nat.{ℕ}
+use mathlib.Core.Bool.{Bool, cond}
 use mathlib.Core.List.{List}
 use lib.Dec.{eqb, leb}
 use lib.ListN.{getD, set}
@@ -10,8 +10,9 @@ use Rattle.isa.specs.declared.opcode.Decoded.{Decoded}
 use Rattle.isa.specs.declared.opcode.Decoded.the-variants.{Known, Unknown}
 use Rattle.isa.specs.Word.{decodeWord, digitX, digitY, digitZ, byteYZ}
 use Rattle.control.specs.Address.{reachedAddress}
+use Rattle.marks.specs.Owners.{joined}
 
--- a mark of 0 is open
+-- a mark of 0 has no owner
 pub record Marks : Type 0 where
   pub memory : List ℕ
   pub registers : List ℕ
@@ -21,17 +22,9 @@ pub record Marks : Type 0 where
 abbrev pub marksOf : List ℕ → List ℕ → ℕ → Marks
 marksOf m r d = record { memory = m; registers = r; mdr = d }
 
--- the marks that hide
-abbrev pub marked : ℕ → Bool
-marked n = not (eqb n 0)
-
 -- a hidden value is written 0 (section 6): which marks hide, mark, value
 unfoldable pub shown : (ℕ → Bool) → ℕ → ℕ → ℕ
 shown hid m v = cond (hid m) 0 v
-
--- marked if either is
-abbrev pub joined : ℕ → ℕ → ℕ
-joined a b = max a b
 
 abbrev pub wordMark : ℕ → Marks → ℕ
 wordMark a k = getD (k .memory) a 0
@@ -53,14 +46,14 @@ wordMarked a n k = record { memory = set (k .memory) a n; registers = k .registe
 abbrev pub joinedYZ : ℕ → Marks → ℕ
 joinedYZ w k = joined (registerMark (digitY w) k) (registerMark (digitZ w) k)
 
--- 02, Change 2: XOR with y = z, and a shift with yz of 16 or more, give 0 for every input and open their target; the word alone tells
+-- 02, Change 2: XOR with y = z, and a shift with yz of 16 or more, give 0 for every input and leave their target with no owner; the word alone tells
 abbrev pub sameSources : ℕ → Bool
 sameSources w = eqb (digitY w) (digitZ w)
 
 abbrev pub shiftsOut : ℕ → Bool
 shiftsOut w = leb 16 (byteYZ w)
 
--- what the instruction w does to the marks once its fetch has opened MDR; to keep a mark is to set it to itself
+-- what the instruction w does to the marks once its fetch has left MDR with none; to keep a mark is to set it to itself
 abbrev pub executedMarks : Decoded → ℕ → Marks → Marks
 executedMarks (Known LoadImmediate) w k = registerMarked (digitX w) 0 k
 executedMarks (Known LoadRegister) w k = registerMarked (digitY w) (registerMark (digitZ w) k) k

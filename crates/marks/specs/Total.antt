@@ -11,7 +11,7 @@ use Rattle.isa.specs.declared.opcode.Decoded.{Decoded}
 use Rattle.isa.specs.declared.opcode.Decoded.the-variants.{Known, Unknown}
 use Rattle.isa.specs.Word.{digitX}
 use Rattle.control.specs.Address.{reachedAddress}
-use Rattle.marks.specs.Marks.{Marks, marked, wordMark, registerMark}
+use Rattle.marks.specs.Marks.{Marks, wordMark, registerMark}
 
 -- a total where an instruction is STORE, which alone changes it: what it was, what it becomes
 abbrev pub onStore : Decoded → ℕ → ℕ → ℕ
@@ -45,6 +45,6 @@ module _ (hid : ℕ → Bool) where
   totalAfter d w k t = onStore d t (t + hidden (registerMark (digitX w) k) - hidden (wordMark (reachedAddress w) k))
 
 -- a total that is the full count of a machine's marks
-pub record IsCount (marks : List ℕ) (total : ℕ) : Type 0 where
+pub record IsCount (hid : ℕ → Bool) (marks : List ℕ) (total : ℕ) : Type 0 where
   pub full : length marks ≡ memoryWords
-  pub count : total ≡ hiddenCount marked marks
+  pub count : total ≡ hiddenCount hid marks

@@ -1,9 +1,10 @@
-// Marks: which words and registers are hidden, how an instruction moves that, and how many words are. A mark of 0 is
-// open.
+// Marks: the owners of words and registers, how an instruction moves them, and how many words are hidden from a reader.
+// A mark is a byte of eight owners; 0 is open.
 ghost use mathlib.Core.Path.{_≡_};
 ghost use mathlib.Core.Bool.{cond};
 ghost use Rattle.isa.specs.Word.{decodeWord};
-ghost use Rattle.marks.specs.Marks.{marked, marksOf, shown, joined, sameSources, shiftsOut, executedMarks, instructionMarks};
+ghost use Rattle.marks.specs.Owners.{joined, hiddenFrom};
+ghost use Rattle.marks.specs.Marks.{marksOf, shown, sameSources, shiftsOut, executedMarks, instructionMarks};
 ghost use Rattle.marks.specs.Total.{hidden, hiddenCount};
 ghost use Rattle.marks.specs.Forms.{oneMark, clearing, allMarks, moves, openedX, retotalled, totalBy};
 use control::reached_address;
@@ -31,25 +32,29 @@ pub struct Moved {
     pub cleared: bool,
 }
 
-// Whether a value with this mark is hidden: what hides is asked here and nowhere else.
-pub fn hides(mark: u8) -> bool
-    ensures { λ r. ⌜ r ≡ marked mark ⌝ }
+// All eight owners: nothing is hidden from this clearance.
+pub const EVERYONE: u8 = 255;
+
+// Whether a value with these owners is hidden from a reader with this clearance: one of them is outside it. What hides
+// is asked here and nowhere else. The compiler takes what is outside once for a whole run (docs/BENCHMARKS.md).
+pub fn is_hidden(clearance: u8, owners: u8) -> bool
+    ensures { λ r. ⌜ r ≡ hiddenFrom clearance owners ⌝ }
 {
-    mark != 0
+    owners & (EVERYONE - clearance) != 0
 }
 
-// The value that a report shows: 0 for one that is marked.
-pub fn shown_value(mark: u8, value: u16) -> u16
-    ensures { λ r. ⌜ r ≡ shown marked mark value ⌝ }
+// The value that a report shows: 0 for one that is hidden.
+pub fn shown_value(clearance: u8, mark: u8, value: u16) -> u16
+    ensures { λ r. ⌜ r ≡ shown (hiddenFrom clearance) mark value ⌝ }
 {
-    if hides(mark) { 0 } else { value }
+    if is_hidden(clearance, mark) { 0 } else { value }
 }
 
-// The mark of what comes from two sources.
+// The owners of what comes from two sources.
 fn join(a: u8, b: u8) -> u8
     ensures { λ r. ⌜ r ≡ joined a b ⌝ }
 {
-    if a < b { b } else { a }
+    a | b
 }
 
 // Where a register alone gets a mark: the word keeps its own, and the fetch has opened MDR.
@@ -189,45 +194,49 @@ pub fn mark_instruction(
 const TOTALS: u32 = 65536;
 
 // 1 for a mark that hides.
-fn one(mark: u8) -> u32
-    ensures { λ r. ⌜ r ≡ hidden marked mark ⌝ }
+fn one(clearance: u8, mark: u8) -> u32
+    ensures { λ r. ⌜ r ≡ hidden (hiddenFrom clearance) mark ⌝ }
 {
-    if hides(mark) { 1 } else { 0 }
+    if is_hidden(clearance, mark) { 1 } else { 0 }
 }
 
 // How many of the marks hide. It is asked once, where a run begins.
-pub fn count_hidden(marks: &[u8]) -> usize
-    ensures { λ r. ⌜ r ≡ hiddenCount marked (now (marks .entry)) ⌝ }
+pub fn count_hidden(clearance: u8, marks: &[u8]) -> usize
+    ensures { λ r. ⌜ r ≡ hiddenCount (hiddenFrom clearance) (now (marks .entry)) ⌝ }
 {
     let mut total: usize = 0;
     let mut i = 0;
     while i < marks.len() {
-        let more = one(marks[i]);
+        let more = one(clearance, marks[i]);
         total += more as usize;
         i += 1;
     }
     total
 }
 
-// A total with one word's mark changed. It goes around at its end, where no count comes: a test for that would cost more
-// than all else here (docs/BENCHMARKS.md).
-fn retotal(total: u16, old: u8, new: u8) -> u16
-    ensures { λ r. ⌜ r ≡ retotalled total old new ⌝ }
+// A total with one word's mark changed: mostly it is the same again. It goes around at its end, where no count comes: a
+// test for that would cost more than all else here (docs/BENCHMARKS.md).
+fn retotal(clearance: u8, total: u16, old: u8, new: u8) -> u16
+    ensures { λ r. ⌜ r ≡ retotalled (hiddenFrom clearance) total old new ⌝ }
 {
-    let more = one(new);
-    let less = one(old);
+    if old == new {
+        return total;
+    }
+    let more = one(clearance, new);
+    let less = one(clearance, old);
     ((total as u32 + TOTALS + more - less) % TOTALS) as u16
 }
 
 // The total of hidden words after a whole instruction, from the marks before it, by the opcode that its word has.
 pub fn total_decoded(
+    clearance: u8,
     decoded: Decoded,
     word: u16,
     total: u16,
     memory: &[u8; MEMORY_WORDS],
     registers: &[u8; REGISTER_COUNT],
 ) -> u16
-    ensures { λ r. ⌜ r ≡ totalBy decoded word (now (memory .entry)) (now (registers .entry)) total ⌝ }
+    ensures { λ r. ⌜ r ≡ totalBy (hiddenFrom clearance) decoded word (now (memory .entry)) (now (registers .entry)) total ⌝ }
 {
     let Decoded::Known(opcode) = decoded else {
         return total;
@@ -237,19 +246,21 @@ pub fn total_decoded(
     };
     let x = (word / 256 % 16) as usize;
     let at = reached_address(word) as usize;
-    retotal(total, memory[at], registers[x])
+    retotal(clearance, total, memory[at], registers[x])
 }
 
 // The same of a word.
 pub fn total_instruction(
+    clearance: u8,
     word: u16,
     total: u16,
     memory: &[u8; MEMORY_WORDS],
     registers: &[u8; REGISTER_COUNT],
 ) -> u16
-    ensures { λ r. ⌜ r ≡ totalBy (decodeWord word) word (now (memory .entry)) (now (registers .entry)) total ⌝ }
+    ensures { λ r. ⌜ r
+        ≡ totalBy (hiddenFrom clearance) (decodeWord word) word (now (memory .entry)) (now (registers .entry)) total ⌝ }
 {
     let i = Instruction::from_word(word);
     let decoded = i.opcode();
-    total_decoded(decoded, word, total, memory, registers)
+    total_decoded(clearance, decoded, word, total, memory, registers)
 }

@@ -7,7 +7,6 @@ use mathlib.Core.Bool.{Bool, true, false}
 use mathlib.Core.List.{List}
 use lib.ListN.{length}
 use Rattle.encoding.specs.Answer.{Outcome, outcome, Told}
-use Rattle.marks.specs.Marks.{marked}
 use Rattle.secret.specs.declared.Reported.the-variants.{Written, Refused}
 use Rattle.secret.specs.Report.{reportBytes}
 use Rattle.secret.specs.Outcome as reporting
@@ -27,7 +26,7 @@ pub line-answer : (whole : Bool) (b : List ℕ) (room : ℕ) {n : ℕ} → n ≡
 unfolding programAnswer
 line-answer whole b room {n} e h = rw (← e) (go n h)
   where
-    go : (k : ℕ) → (k ≡ 0 → ⊥) → answerOf k (reportBytes marked (inputOf b)) ≡ refusalLine k
+    go : (k : ℕ) → (k ≡ 0 → ⊥) → answerOf k (reportBytes (inputOf b)) ≡ refusalLine k
     go zero z = absurd (z refl)
     go (suc k) z = refl
 
@@ -39,19 +38,19 @@ failed-answer b out {whole} w =
 
 -- of an input that was read whole
 module _ (b out : List ℕ) {whole : Bool} (w : whole ≡ true) where
-  report-answer : bytesRefusal b (length out) ≡ 0 → programAnswer whole b (length out) ≡ reportBytes marked (inputOf b)
+  report-answer : bytesRefusal b (length out) ≡ 0 → programAnswer whole b (length out) ≡ reportBytes (inputOf b)
   unfolding programAnswer
   report-answer e = rw (w, e)
 
-  fits : bytesRefusal b (length out) ≡ 0 → length (reportBytes marked (inputOf b)) ≤ length out
-  fits e = let f = report-fits marked (inputOf b) (length out) (bytes-accepted b (length out) e) in omega arith
+  fits : bytesRefusal b (length out) ≡ 0 → length (reportBytes (inputOf b)) ≤ length out
+  fits e = let f = report-fits (inputOf b) (length out) (bytes-accepted b (length out) e) in omega arith
 
   -- the call on bytes told a length
   pub written-answer : {n : ℕ} {o : List ℕ} → outcome (reporting.told (Written n)) o ≡ bytesOutcome b out → outcome n o ≡ programOutcome whole b out
   written-answer {n} {o} h =
       let e = bytes-written b out h in
       let q = h ∙ bytes-left b out e in
-      fitting (reportBytes marked (inputOf b)) out (fits e) (ap (λ (x : Outcome Told). x .answer .length) q) (ap (λ (x : Outcome Told). x .buffer) q)
+      fitting (reportBytes (inputOf b)) out (fits e) (ap (λ (x : Outcome Told). x .answer .length) q) (ap (λ (x : Outcome Told). x .buffer) q)
       ∙ ap (λ (x : List ℕ). answerOutcome x out) (sym (report-answer e))
 
   -- it told a number, and left the buffer o as it was
@@ -72,8 +71,8 @@ refused-line whole b out h room =
     rw (line-answer whole b (length out) refl h) (writes-answer (refusalLine n) out (omega (arith, length-refusal n)))
 
 -- one that is served writes the report and nothing else
-pub served-report : (b out : List ℕ) → bytesRefusal b (length out) ≡ 0 → handed (programOutcome true b out) ≡ reportBytes marked (inputOf b)
-served-report b out e = rw (report-answer b out refl e) (writes-answer (reportBytes marked (inputOf b)) out (fits b out refl e))
+pub served-report : (b out : List ℕ) → bytesRefusal b (length out) ≡ 0 → handed (programOutcome true b out) ≡ reportBytes (inputOf b)
+served-report b out e = rw (report-answer b out refl e) (writes-answer (reportBytes (inputOf b)) out (fits b out refl e))
 
 -- demand 3
 pub demand-three-program : DemandThreeProgram

@@ -4,7 +4,6 @@ use Prim.Native.Nat.{ℕ}
 use mathlib.Core.Bool.{Bool, cond}
 use mathlib.Core.List.{List}
 use lib.ListN.{length, take}
-use Rattle.marks.specs.Marks.{marked}
 use Rattle.secret.specs.Report.{reportBytes}
 use Rattle.secret.specs.Program.{inputOf, bytesRefusal}
 use Rattle.encoding.specs.Answer.{Outcome}
@@ -16,7 +15,7 @@ programRefusal whole b room = cond whole (bytesRefusal b room) 6
 
 -- the bytes that are the answer
 unfoldable pub programAnswer : Bool → List ℕ → ℕ → List ℕ
-programAnswer whole b room = answerOf (programRefusal whole b room) (reportBytes marked (inputOf b))
+programAnswer whole b room = answerOf (programRefusal whole b room) (reportBytes (inputOf b))
 
 -- they stand at the start of the buffer, and the bytes behind them are kept; where they do not fit nothing is written, and the length is 0
 abbrev pub programOutcome : Bool → List ℕ → List ℕ → Outcome ℕ

@@ -7,7 +7,6 @@ use borrow.Author.Tests.{eq-eqb}
 use contract.Lifetimes.{Lfts}
 use lib.ListN.{length}
 use denote.Ref.{RefT, now}
-use Rattle.marks.specs.Marks.{marked}
 use Rattle.guard.specs.Input.{inputFrom, inputRefusal}
 use Rattle.guard.specs.declared.stops.Begun.{Begun}
 use Rattle.vm.specs.declared.machine.Machine.{Machine as Code}
@@ -88,9 +87,9 @@ clear-begins κs m r e p = begins (refusalOf m) (imageWords []) 0 0 m r p
 
 -- ---- the guarded run
 
-pub guarded-run-totals : (κs : Lfts 3) (image marks breaks : RefT (List ℕ)) (n : Begun) (r : GuardedRun) (e : _) → guarded-run.Learnt κs (image, (marks, (n, (breaks, tt)))) r e → r .refused ≡ 0
-    → Totals (r .machine .counters) (guardedMade marked (inputFrom (now image) (now marks) (n .0) (now breaks)))
-guarded-run-totals κs image marks breaks n r e p z =
-    let i = inputFrom (now image) (now marks) (n .0) (now breaks) in
+pub guarded-run-totals : (κs : Lfts 3) (image marks breaks : RefT (List ℕ)) (n : Begun) (c : ℕ) (r : GuardedRun) (e : _) → guarded-run.Learnt κs (image, (marks, (n, (breaks, (c, tt))))) r e → r .refused ≡ 0
+    → Totals (r .machine .counters) (guardedMade (inputFrom (now image) (now marks) (n .0) (now breaks) c))
+guarded-run-totals κs image marks breaks n c r e p z =
+    let i = inputFrom (now image) (now marks) (n .0) (now breaks) c in
     let served : inputRefusal i ≡ 0 = sym (answer-refusal i) ∙ sym (ap (λ (x : GuardedAnswer). x .refused) (p .0)) ∙ z in
-    rw (ap (λ (x : GuardedAnswer). x .guarded .machine .counters) (p .0 ∙ answer-served i served)) (guarded-totals marked i served)
+    rw (ap (λ (x : GuardedAnswer). x .guarded .machine .counters) (p .0 ∙ answer-served i served)) (guarded-totals i served)

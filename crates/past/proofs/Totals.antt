@@ -14,6 +14,7 @@ use Rattle.control.specs.Count.{overCounted}
 use Rattle.control.specs.Lawful.{lawful}
 use Rattle.control.proofs.Lawfuls.{true-false, lawful-fetch}
 use Rattle.history.specs.declared.snapshot.Snapshot.{Snapshot}
+use Rattle.marks.specs.Owners.{hiddenFrom}
 use Rattle.guard.specs.Input.{Input, inputRefusal}
 use Rattle.vm.specs.declared.machine.Machine.{Machine as Code}
 use Rattle.vm.specs.Machine.{Machine, nextText, microStep}
@@ -112,11 +113,11 @@ bus-totals l m t p = totals (past-adds l m t p)
 
 -- ---- the guarded run
 
-pub guarded-totals : (hid : ℕ → Bool) (i : Input) → inputRefusal i ≡ 0 → Totals (guardedOf hid i .guarded .machine .counters) (guardedMade hid i)
+pub guarded-totals : (i : Input) → inputRefusal i ≡ 0 → Totals (guardedOf i .guarded .machine .counters) (guardedMade i)
 unfolding guardedOf guardedStart restarted
-guarded-totals hid i e =
+guarded-totals i e =
     let h = served-input i e .2 in
-    totals (guarded-adds hid (i .breaks) (i .budget) (guardedStart (i .image) (i .marks)) (lawful-fetch _ (omega arith)) (record { reads = omega (arith, h); writes = omega (arith, h) }))
+    totals (guarded-adds (hiddenFrom (i .clearance)) (i .breaks) (i .budget) (guardedStart (i .image) (i .marks)) (lawful-fetch _ (omega arith)) (record { reads = omega (arith, h); writes = omega (arith, h) }))
 
 -- ---- the ticks that are counted are those whose texts `step_instruction` answers
 

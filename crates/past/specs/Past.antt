@@ -112,5 +112,5 @@ pub record Totals (k : Counters) (t : List Machine) : Type 0 where
 -- ---- the guarded run, whose counters are in the report (01, sections 5 and 6)
 
 -- the ticks of the instructions that it begins, from a machine just switched on
-abbrev pub guardedMade : (ℕ → Bool) → Input → List Machine
-guardedMade hid i = instructionsTicks (guardedOf hid i .executed) (guardedStart (i .image) (i .marks) .machine)
+abbrev pub guardedMade : Input → List Machine
+guardedMade i = instructionsTicks (guardedOf i .executed) (guardedStart (i .image) (i .marks) .machine)

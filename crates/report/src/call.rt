@@ -9,19 +9,21 @@ use secret::Reported;
 use vm::Begun;
 use vm::guarded_run;
 
-// Make a guarded run and write its report from byte 0 on; bytes past the report are kept. Refused 1 to 4
-// as the run is, 5 where the buffer is shorter than the longest report.
+// Make a guarded run and write its report for a reader with this clearance from byte 0 on; bytes past the report are
+// kept. Refused 1 to 4 as the run is, 5 where the buffer is shorter than the longest report.
 pub fn report(
     image: &[u16],
     marks: &[u8],
     budget: Begun,
     breakpoints: &[u8],
+    clearance: u8,
     out: &mut [u8],
 ) -> Reported
     ensures { λ r. ⌜ outcome (told r) (now (out .exit))
-        ≡ reportOutcome (inputFrom (now (image .entry)) (now (marks .entry)) (budget .0) (now (breakpoints .entry))) (now (out .entry)) ⌝ }
+        ≡ reportOutcome (inputFrom (now (image .entry)) (now (marks .entry)) (budget .0) (now (breakpoints .entry)) clearance)
+        (now (out .entry)) ⌝ }
 {
-    let run = guarded_run(image, marks, budget, breakpoints);
+    let run = guarded_run(image, marks, budget, breakpoints, clearance);
     let refused = run.refused;
     if refused != 0 {
         return Reported::Refused(refused);
@@ -40,6 +42,7 @@ pub fn report(
         marks,
         budget,
         breakpoints,
+        clearance,
         stop,
         machine,
         &register_marks,

@@ -1,16 +1,15 @@
 // The call for a report on the report program's input: the guarded run's input in bytes, numbers high
-// byte first. In order: image length 2, the words 2 each, 256 marks, budget 8, breakpoint count 2, the
-// breakpoints 1 each.
+// byte first. In order: image length 2, the words 2 each, 256 owner bytes, budget 8, breakpoint count 2, the
+// breakpoints 1 each, clearance 1.
 ghost use mathlib.Core.Path.{_≡_};
-ghost use Prim.Native.Nat.{_+_};
 ghost use lib.ListN.{take};
-ghost use Rattle.isa.specs.Sizes.{memoryWords};
 ghost use Rattle.encoding.specs.Answer.{outcome};
 ghost use Rattle.secret.specs.Outcome.{told};
-ghost use Rattle.secret.specs.Program.{inputLength, badMarks, firstRefusal, bytesOutcome};
+ghost use Rattle.secret.specs.Program.{inputLength, firstRefusal, bytesOutcome};
 use crate::call::report;
 use crate::widths::COUNT_WIDTH;
 use crate::widths::INPUT_LENGTH;
+use crate::widths::MARK_WIDTH;
 use crate::widths::NUMBER_WIDTH;
 use crate::widths::REPORT_LENGTH;
 use crate::widths::VALUE_WIDTH;
@@ -19,40 +18,17 @@ use encoding::get_words;
 use encoding::put_bytes;
 use guard::BREAK_LIMIT;
 use guard::BUDGET_LIMIT;
-use guard::zero_one;
 use isa::MEMORY_WORDS;
 use secret::Reported;
 use vm::Begun;
 
-// The 256 marks, from index `at` up to `end`, are wholly there, and one is not 0 or 1.
-fn bad_marks(input: &[u8], at: usize, end: usize) -> bool
-    requires { ⌜ end ≡ at + memoryWords ⌝ }
-    ensures { λ r. ⌜ r ≡ badMarks (now (input .entry)) at ⌝ }
-{
-    if input.len() < end {
-        return false;
-    }
-    let good = zero_one(&input[at..end]);
-    !good
-}
-
 // The first test that refuses, 0 for none. The tests go by their numbers, whatever the order of the
-// parts in the input.
-fn first_refusal(
-    words: usize,
-    bad: bool,
-    count: usize,
-    budget: Begun,
-    room: usize,
-    whole: bool,
-) -> u8
-    ensures { λ r. ⌜ r ≡ firstRefusal words bad count (budget .0) room whole ⌝ }
+// parts in the input. Every byte is a mark, so 2 is not met.
+fn first_refusal(words: usize, count: usize, budget: Begun, room: usize, whole: bool) -> u8
+    ensures { λ r. ⌜ r ≡ firstRefusal words count (budget .0) room whole ⌝ }
 {
     if MEMORY_WORDS < words {
         return 1;
-    }
-    if bad {
-        return 2;
     }
     if BREAK_LIMIT < count {
         return 3;
@@ -76,11 +52,11 @@ fn report_parts(input: &[u8], out: &mut [u8]) -> Reported
     let budget_at = marks_at + MEMORY_WORDS;
     let count_at = budget_at + NUMBER_WIDTH;
     let breaks_at = count_at + COUNT_WIDTH;
-    let bad = bad_marks(input, marks_at, budget_at);
     let count = get_number(input, count_at, COUNT_WIDTH) as usize;
     let budget = Begun(get_number(input, budget_at, NUMBER_WIDTH));
-    let whole = input.len() == breaks_at + count;
-    let refused = first_refusal(n, bad, count, budget, out.len(), whole);
+    let clearance_at = breaks_at + count;
+    let whole = input.len() == clearance_at + MARK_WIDTH;
+    let refused = first_refusal(n, count, budget, out.len(), whole);
     if refused != 0 {
         return Reported::Refused(refused);
     }
@@ -90,7 +66,8 @@ fn report_parts(input: &[u8], out: &mut [u8]) -> Reported
         &words[..n],
         &input[marks_at..budget_at],
         budget,
-        &input[breaks_at..],
+        &input[breaks_at..clearance_at],
+        input[clearance_at],
         out,
     )
 }

@@ -5,7 +5,7 @@ ghost use Prim.Native.Nat.{_+_, _≤_};
 ghost use lib.ListN.{length};
 ghost use Rattle.encoding.specs.Bytes.{over, bigEndian};
 ghost use Rattle.isa.specs.Sizes.{textWidth};
-ghost use Rattle.marks.specs.Marks.{marked};
+ghost use Rattle.marks.specs.Owners.{hiddenFrom};
 ghost use Rattle.secret.specs.Widths.{kindWidth, headLength, valueLength, startLength, breakLength, traceLength};
 ghost use Rattle.secret.specs.Widths.{controlLength, countsLength, endLength};
 ghost use Rattle.secret.specs.Report.{headRecord, shownText, valueRecord, startRecord, traceBytes};
@@ -13,6 +13,7 @@ ghost use Rattle.control.specs.Codes.{faultWidth, faultBytes};
 ghost use Rattle.secret.specs.Report.{controlBytes, countBytes, endRecord};
 use crate::widths::BREAK_COUNT_AT;
 use crate::widths::BUDGET_AT;
+use crate::widths::CLEARANCE_AT;
 use crate::widths::CONTROL_AT;
 use crate::widths::CONTROL_LENGTH;
 use crate::widths::COUNT_WIDTH;
@@ -31,27 +32,29 @@ use disasm::disassemble_into;
 use encoding::put_bytes;
 use encoding::put_number;
 use isa::TEXT_WIDTH;
-use marks::hides;
+use marks::is_hidden;
 use marks::shown_value;
 use vm::Begun;
 
-// Kind 01, at byte 0: image length, budget, breakpoint count.
-pub(crate) fn put_head(out: &mut [u8], len: usize, budget: Begun, count: usize)
+// Kind 09, at byte 0: image length, budget, breakpoint count, clearance.
+pub(crate) fn put_head(out: &mut [u8], len: usize, budget: Begun, count: usize, clearance: u8)
     requires { ⌜ headLength ≤ length (now out) ⌝ }
-    ensures { λ _. ⌜ now (out .exit) ≡ over (now (out .entry)) 0 (headRecord len (budget .0) count) ⌝ }
+    ensures { λ _. ⌜ now (out .exit) ≡ over (now (out .entry)) 0 (headRecord len (budget .0) count clearance) ⌝ }
 {
-    put_number(out, 0, KIND_WIDTH, 1);
+    let last = [clearance];
+    put_number(out, 0, KIND_WIDTH, 9);
     put_number(out, KIND_WIDTH, COUNT_WIDTH, len as u64);
     put_number(out, BUDGET_AT, NUMBER_WIDTH, budget.0);
     put_number(out, BREAK_COUNT_AT, COUNT_WIDTH, count as u64);
+    put_bytes(out, CLEARANCE_AT, &last);
 }
 
-// The disassembly that a record shows: zeros for a word that is marked.
-fn put_text(out: &mut [u8], at: usize, mark: u8, word: u16)
+// The disassembly that a record shows: zeros for a word that is hidden.
+fn put_text(out: &mut [u8], at: usize, clearance: u8, mark: u8, word: u16)
     requires { ⌜ at + textWidth ≤ length (now out) ⌝ }
-    ensures { λ _. ⌜ now (out .exit) ≡ over (now (out .entry)) at (shownText marked mark word) ⌝ }
+    ensures { λ _. ⌜ now (out .exit) ≡ over (now (out .entry)) at (shownText (hiddenFrom clearance) mark word) ⌝ }
 {
-    let hidden = hides(mark);
+    let hidden = is_hidden(clearance, mark);
     if !hidden {
         disassemble_into(out, at, word);
         return;
@@ -64,6 +67,7 @@ fn put_text(out: &mut [u8], at: usize, mark: u8, word: u16)
 pub(crate) fn put_value(
     out: &mut [u8],
     at: usize,
+    clearance: u8,
     kind: u8,
     width: usize,
     index: usize,
@@ -71,9 +75,10 @@ pub(crate) fn put_value(
     value: u16,
 )
     requires { ⌜ at + valueLength width ≤ length (now out) ⌝ }
-    ensures { λ _. ⌜ now (out .exit) ≡ over (now (out .entry)) at (valueRecord marked kind (bigEndian width index) mark value) ⌝ }
+    ensures { λ _. ⌜ now (out .exit)
+        ≡ over (now (out .entry)) at (valueRecord (hiddenFrom clearance) kind (bigEndian width index) mark value) ⌝ }
 {
-    let v = shown_value(mark, value);
+    let v = shown_value(clearance, mark, value);
     let tail = [mark, (v / 256 % 256) as u8, (v % 256) as u8];
     let second = at + KIND_WIDTH;
     out[at] = kind;
@@ -82,12 +87,19 @@ pub(crate) fn put_value(
 }
 
 // Kind 02: address, mark, value, disassembly.
-pub(crate) fn put_start(out: &mut [u8], at: usize, address: usize, mark: u8, word: u16)
+pub(crate) fn put_start(
+    out: &mut [u8],
+    at: usize,
+    clearance: u8,
+    address: usize,
+    mark: u8,
+    word: u16,
+)
     requires { ⌜ at + startLength ≤ length (now out) ⌝ }
-    ensures { λ _. ⌜ now (out .exit) ≡ over (now (out .entry)) at (startRecord marked address mark word) ⌝ }
+    ensures { λ _. ⌜ now (out .exit) ≡ over (now (out .entry)) at (startRecord (hiddenFrom clearance) address mark word) ⌝ }
 {
-    put_value(out, at, 2, ADDRESS_WIDTH, address, mark, word);
-    put_text(out, at + WORD_LENGTH, mark, word);
+    put_value(out, at, clearance, 2, ADDRESS_WIDTH, address, mark, word);
+    put_text(out, at + WORD_LENGTH, clearance, mark, word);
 }
 
 // Kind 03, and the first two bytes of kind 08.
@@ -166,17 +178,18 @@ fn put_fault(out: &mut [u8], at: usize, fault: Fault)
 pub(crate) fn put_end(
     out: &mut [u8],
     at: usize,
+    clearance: u8,
     stop: u8,
     state: State,
     counters: Counters,
     mark: u8,
 )
     requires { ⌜ at + endLength ≤ length (now out) ⌝ }
-    ensures { λ _. ⌜ now (out .exit) ≡ over (now (out .entry)) at (endRecord marked stop state counters mark) ⌝ }
+    ensures { λ _. ⌜ now (out .exit) ≡ over (now (out .entry)) at (endRecord (hiddenFrom clearance) stop state counters mark) ⌝ }
 {
     let control = state.control;
     let fault = state.fault;
-    let mdr = shown_value(mark, control.mdr);
+    let mdr = shown_value(clearance, mark, control.mdr);
     put_byte(out, at, 8, stop);
     let second = at + CONTROL_AT;
     put_control(out, second, control.pc, control.ir, control.mar, mark, mdr);

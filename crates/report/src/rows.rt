@@ -6,7 +6,7 @@ ghost use Rattle.encoding.specs.Bytes.{over, bigEndian};
 ghost use Rattle.isa.specs.Sizes.{memoryWords};
 ghost use Rattle.trace.specs.Trace.{traceLimit, columnsLength};
 ghost use Rattle.vm.specs.Calls.{imageWords};
-ghost use Rattle.marks.specs.Marks.{marked};
+ghost use Rattle.marks.specs.Owners.{hiddenFrom};
 ghost use Rattle.secret.specs.Widths.{numberWidth, headLength, breakLength, traceLength, valueLength, touchedLength, breakRecordsAt};
 ghost use Rattle.secret.specs.Report.{startRecords, breakRecord, touchedRecord, eachRecord, valueRecords};
 ghost use Rattle.secret.specs.Forms.{slotRecords};
@@ -42,15 +42,23 @@ fn word_at(image: &[u16], address: usize) -> u16
 }
 
 // Kind 02, behind the head: a record for each starting word.
-pub(crate) fn put_starts(out: &mut [u8], image: &[u16], marks: &[u8])
+pub(crate) fn put_starts(out: &mut [u8], image: &[u16], marks: &[u8], clearance: u8)
     requires { ⌜ (breakRecordsAt ≤ length (now out)) × (length (now marks) ≡ memoryWords) ⌝ }
     ensures { λ _. ⌜ now (out .exit)
-        ≡ over (now (out .entry)) headLength (startRecords marked (imageWords (now (image .entry))) (now (marks .entry))) ⌝ }
+        ≡ over (now (out .entry)) headLength
+        (startRecords (hiddenFrom clearance) (imageWords (now (image .entry))) (now (marks .entry))) ⌝ }
 {
     let mut i = 0;
     while i < MEMORY_WORDS {
         let word = word_at(image, i);
-        put_start(out, HEAD_LENGTH + START_LENGTH * i, i, marks[i], word);
+        put_start(
+            out,
+            HEAD_LENGTH + START_LENGTH * i,
+            clearance,
+            i,
+            marks[i],
+            word,
+        );
         i += 1;
     }
 }
@@ -120,6 +128,7 @@ pub(crate) fn put_trace(
 pub(crate) fn put_values(
     out: &mut [u8],
     at: usize,
+    clearance: u8,
     kind: u8,
     width: usize,
     values: &[u16],
@@ -129,12 +138,21 @@ pub(crate) fn put_values(
         × (length (now marks) ≡ length (now values)) × (width ≤ numberWidth) ⌝ }
     ensures { λ _. ⌜ now (out .exit)
         ≡ over (now (out .entry)) at
-        (valueRecords marked kind (bigEndian width) (length (now (values .entry))) (now (values .entry)) (now (marks .entry))) ⌝ }
+        (valueRecords (hiddenFrom clearance) kind (bigEndian width) (length (now (values .entry))) (now (values .entry)) (now (marks .entry))) ⌝ }
 {
     let size = KIND_WIDTH + width + MARK_WIDTH + VALUE_WIDTH;
     let mut i = 0;
     while i < values.len() {
-        put_value(out, at + size * i, kind, width, i, marks[i], values[i]);
+        put_value(
+            out,
+            at + size * i,
+            clearance,
+            kind,
+            width,
+            i,
+            marks[i],
+            values[i],
+        );
         i += 1;
     }
 }

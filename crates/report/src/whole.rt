@@ -6,7 +6,8 @@ ghost use lib.ListN.{length};
 ghost use Rattle.encoding.specs.Bytes.{over};
 ghost use Rattle.isa.specs.Sizes.{memoryWords, registerCount};
 ghost use Rattle.vm.specs.Calls.{viewOf};
-ghost use Rattle.marks.specs.Marks.{marked, marksOf};
+ghost use Rattle.marks.specs.Owners.{hiddenFrom};
+ghost use Rattle.marks.specs.Marks.{marksOf};
 ghost use Rattle.marks.specs.Total.{hiddenCount};
 ghost use Rattle.secret.specs.Widths.{touchedLength, lastLength, cellsLength, runRecordsAt, runLength};
 ghost use Rattle.secret.specs.Report.{indexBytes, addressBytes, touchedRecord, eachRecord, valueRecords, endRecord, hiddenRecord};
@@ -40,15 +41,22 @@ use guard::GuardedStop;
 use vm::Begun;
 use vm::Machine;
 
-// Kinds 01 to 03, at byte 0.
-fn put_input(out: &mut [u8], image: &[u16], marks: &[u8], budget: Begun, breakpoints: &[u8])
+// Kinds 09, 02 and 03, at byte 0.
+fn put_input(
+    out: &mut [u8],
+    image: &[u16],
+    marks: &[u8],
+    budget: Begun,
+    breakpoints: &[u8],
+    clearance: u8,
+)
     requires { ⌜ (runRecordsAt (length (now breakpoints)) ≤ length (now out)) × (length (now marks) ≡ memoryWords) ⌝ }
     ensures { λ _. ⌜ now (out .exit)
         ≡ over (now (out .entry)) 0
-        (inputRecords (inputFrom (now (image .entry)) (now (marks .entry)) (budget .0) (now (breakpoints .entry)))) ⌝ }
+        (inputRecords (inputFrom (now (image .entry)) (now (marks .entry)) (budget .0) (now (breakpoints .entry)) clearance)) ⌝ }
 {
-    put_head(out, image.len(), budget, breakpoints.len());
-    put_starts(out, image, marks);
+    put_head(out, image.len(), budget, breakpoints.len(), clearance);
+    put_starts(out, image, marks, clearance);
     put_breaks(out, BREAK_RECORDS_AT, breakpoints);
 }
 
@@ -56,6 +64,7 @@ fn put_input(out: &mut [u8], image: &[u16], marks: &[u8], budget: Begun, breakpo
 fn put_cells(
     out: &mut [u8],
     at: usize,
+    clearance: u8,
     registers: &[u16],
     register_marks: &[u8],
     memory: &[u16],
@@ -66,13 +75,22 @@ fn put_cells(
         × (length (now memory) ≡ memoryWords) × (length (now «memory_marks») ≡ memoryWords) ⌝ }
     ensures { λ _. ⌜ now (out .exit)
         ≡ over (now (out .entry)) at
-        (valueRecords marked 5 indexBytes registerCount (now (registers .entry)) (now («register_marks» .entry))
-        ++ valueRecords marked 6 addressBytes memoryWords (now (memory .entry)) (now («memory_marks» .entry))) ⌝ }
+        (valueRecords (hiddenFrom clearance) 5 indexBytes registerCount (now (registers .entry)) (now («register_marks» .entry))
+        ++ valueRecords (hiddenFrom clearance) 6 addressBytes memoryWords (now (memory .entry)) (now («memory_marks» .entry))) ⌝ }
 {
-    put_values(out, at, 5, INDEX_WIDTH, registers, register_marks);
+    put_values(
+        out,
+        at,
+        clearance,
+        5,
+        INDEX_WIDTH,
+        registers,
+        register_marks,
+    );
     put_values(
         out,
         at + REGISTERS_LENGTH,
+        clearance,
         6,
         ADDRESS_WIDTH,
         memory,
@@ -84,6 +102,7 @@ fn put_cells(
 fn put_last(
     out: &mut [u8],
     at: usize,
+    clearance: u8,
     touched: &[Address],
     stop: u8,
     state: State,
@@ -94,11 +113,12 @@ fn put_last(
     requires { ⌜ at + (touchedLength * length (now touched) + lastLength) ≤ length (now out) ⌝ }
     ensures { λ _. ⌜ now (out .exit)
         ≡ over (now (out .entry)) at
-        (eachRecord touchedRecord (now (touched .entry)) ++ (endRecord marked stop state counters mark ++ hiddenRecord «hidden_total»)) ⌝ }
+        (eachRecord touchedRecord (now (touched .entry))
+        ++ (endRecord (hiddenFrom clearance) stop state counters mark ++ hiddenRecord «hidden_total»)) ⌝ }
 {
     put_touches(out, at, touched);
     let second = at + TOUCHED_LENGTH * touched.len();
-    put_end(out, second, stop, state, counters, mark);
+    put_end(out, second, clearance, stop, state, counters, mark);
     put_numbered(
         out,
         second + END_LENGTH,
@@ -112,6 +132,7 @@ fn put_last(
 fn put_run(
     out: &mut [u8],
     at: usize,
+    clearance: u8,
     stop: u8,
     machine: Machine,
     register_marks: &[u8],
@@ -121,11 +142,12 @@ fn put_run(
 ) -> usize
     requires { ⌜ (at + runLength (machine .«trace_len») (machine .«touched_len») ≤ length (now out))
         × (length (now «register_marks») ≡ registerCount) × (length (now «memory_marks») ≡ memoryWords) × Reportable machine
-        × («hidden_total» ≡ hiddenCount marked (now «memory_marks»)) ⌝ }
+        × («hidden_total» ≡ hiddenCount (hiddenFrom clearance) (now «memory_marks»)) ⌝ }
     ensures { λ r. ⌜ (r ≡ at + runLength (machine .«trace_len») (machine .«touched_len»))
         × (now (out .exit)
         ≡ over (now (out .entry)) at
-        (endRecords marked stop (viewOf machine) (marksOf (now («memory_marks» .entry)) (now («register_marks» .entry)) mark))) ⌝ }
+        (endRecords (hiddenFrom clearance) stop (viewOf machine)
+        (marksOf (now («memory_marks» .entry)) (now («register_marks» .entry)) mark))) ⌝ }
 {
     let start = machine.trace_start;
     let traced = machine.trace_len;
@@ -142,6 +164,7 @@ fn put_run(
     put_cells(
         out,
         second,
+        clearance,
         &registers,
         register_marks,
         &memory,
@@ -151,6 +174,7 @@ fn put_run(
     put_last(
         out,
         third,
+        clearance,
         &touched[..written],
         stop,
         state,
@@ -168,6 +192,7 @@ pub(crate) fn write_report(
     marks: &[u8],
     budget: Begun,
     breakpoints: &[u8],
+    clearance: u8,
     stop: GuardedStop,
     machine: Machine,
     register_marks: &[u8],
@@ -175,20 +200,20 @@ pub(crate) fn write_report(
     mark: u8,
     hidden_total: u16,
 ) -> usize
-    requires { ⌜ Writable (now out) (now marks) (now breakpoints) (now «register_marks») (now «memory_marks») «hidden_total» machine ⌝ }
+    requires { ⌜ Writable clearance (now out) (now marks) (now breakpoints) (now «register_marks») (now «memory_marks») «hidden_total» machine ⌝ }
     ensures { λ r. ⌜ answeredLength r (now (out .exit))
         ≡ delivered
-        (reportOn marked
-        (inputFrom (now (image .entry)) (now (marks .entry)) (budget .0) (now (breakpoints .entry)))
+        (reportOn (inputFrom (now (image .entry)) (now (marks .entry)) (budget .0) (now (breakpoints .entry)) clearance)
         (endFrom stop machine (now («register_marks» .entry)) (now («memory_marks» .entry)) mark))
         (now (out .entry)) ⌝ }
 {
     let number = stop.number();
-    put_input(out, image, marks, budget, breakpoints);
+    put_input(out, image, marks, budget, breakpoints, clearance);
     let at = BREAK_RECORDS_AT + BREAK_LENGTH * breakpoints.len();
     put_run(
         out,
         at,
+        clearance,
         number,
         machine,
         register_marks,

@@ -22,6 +22,7 @@ pub(crate) const PLACE_WIDTH: usize = 1;
 // A register's index.
 pub(crate) const INDEX_WIDTH: usize = 1;
 
+// The owners of a value, and a reader's clearance.
 pub(crate) const MARK_WIDTH: usize = 1;
 
 pub(crate) const VALUE_WIDTH: usize = 2;
@@ -30,12 +31,14 @@ pub(crate) const PHASE_WIDTH: usize = 1;
 
 pub(crate) const STOP_WIDTH: usize = 1;
 
-// Kinds 01 to 08 and 0A, with where a field begins in its record.
-pub(crate) const HEAD_LENGTH: usize = KIND_WIDTH + COUNT_WIDTH + NUMBER_WIDTH + COUNT_WIDTH;
+// Kinds 09, 02 to 08 and 0A, with where a field begins in its record.
+pub(crate) const HEAD_LENGTH: usize = CLEARANCE_AT + MARK_WIDTH;
 
 pub(crate) const BUDGET_AT: usize = KIND_WIDTH + COUNT_WIDTH;
 
 pub(crate) const BREAK_COUNT_AT: usize = BUDGET_AT + NUMBER_WIDTH;
+
+pub(crate) const CLEARANCE_AT: usize = BREAK_COUNT_AT + COUNT_WIDTH;
 
 pub(crate) const START_LENGTH: usize = WORD_LENGTH + TEXT_WIDTH;
 
@@ -90,7 +93,7 @@ pub(crate) const CELLS_LENGTH: usize = REGISTERS_LENGTH + WORDS_LENGTH;
 // Where kind 03 begins.
 pub(crate) const BREAK_RECORDS_AT: usize = HEAD_LENGTH + STARTS_LENGTH;
 
-// No report is longer: 33,933 bytes.
+// No report is longer: 33,934 bytes.
 pub const REPORT_LENGTH: usize = BREAK_RECORDS_AT
     + BREAK_LENGTH * BREAK_LIMIT
     + TRACE_LENGTH * TRACE_LIMIT
@@ -98,7 +101,7 @@ pub const REPORT_LENGTH: usize = BREAK_RECORDS_AT
     + TOUCHED_LENGTH * MEMORY_WORDS
     + LAST_LENGTH;
 
-// So many bytes of the report program's input decide every answer (`first-decide`), 1,037: the longest that
+// So many bytes of the report program's input decide every answer (`first-decide`), 1,038: the longest that
 // is served has one less, and one more shows that an input is longer than its counts say.
 pub const INPUT_LENGTH: usize = COUNT_WIDTH
     + VALUE_WIDTH * MEMORY_WORDS
@@ -106,4 +109,5 @@ pub const INPUT_LENGTH: usize = COUNT_WIDTH
     + NUMBER_WIDTH
     + COUNT_WIDTH
     + PLACE_WIDTH * BREAK_LIMIT
+    + MARK_WIDTH
     + 1;

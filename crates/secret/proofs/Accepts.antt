@@ -1,20 +1,20 @@
--- What is known of an input that is not refused: its sizes, its starting words, its marks.
+-- What is known of an input that is not refused: its sizes, its starting words; and what of its marks is hidden.
 -- Assumes nothing.
-use Prim.Native.Nat.{ℕ, zero, suc, _-_, _≤_, _<_, max}
+use Prim.Native.Nat.{ℕ, zero, suc, _-_, _≤_, _<_}
 use native.Mathlib.Omega.{arith}
-use mathlib.Core.Path.{_≡_, refl, _∙_}
-use mathlib.Core.Bool.{Bool, true, false, cond, _&&_}
+use mathlib.Core.Path.{_≡_, refl, sym, _∙_}
+use mathlib.Core.Bool.{Bool, true, false, cond, _||_}
 use mathlib.Core.List.{List, [], _∷_, _++_}
-use borrow.Author.Tests.{ltb-false, eqb-true, eqb-false, eq-eqb, not-false}
+use borrow.Author.Tests.{ltb-false, eqb-true, eqb-false}
 use lib.Dec.{eqb, ltb}
 use lib.ListN.{length, getD, take, replicate, length-append, length-take, length-replicate}
 use lib.Seq.{getD-take}
 use Rattle.isa.specs.Sizes.{memoryWords}
-use Rattle.isa.proofs.Truths.{both}
 use Rattle.isa.proofs.Texts.{padded-at}
 use Rattle.vm.specs.Calls.{imageWords}
-use Rattle.marks.specs.Marks.{marked}
-use Rattle.guard.specs.Input.{Input, zeroOne, inputRefusal, breakLimit, budgetLimit}
+use Rattle.marks.specs.Owners.{hiddenFrom}
+use Rattle.marks.proofs.Owners.{hidden-none, hidden-either}
+use Rattle.guard.specs.Input.{Input, guardRefusal, inputRefusal, breakLimit, budgetLimit}
 use Rattle.secret.proofs.Levels.{Joins}
 use Rattle.secret.specs.Widths.{reportLimit}
 use Rattle.secret.specs.Public.{reportRefusal}
@@ -35,15 +35,15 @@ met true x n e = (refl, e)
 met false x n e = absurd (omega arith)
 
 pub input-accepted : (i : Input) → inputRefusal i ≡ 0 → Accepted i
-unfolding inputRefusal
+unfolding guardRefusal
 input-accepted i e =
     let a = passed (ltb memoryWords (length (i .image))) 0 _ e in
-    let b = met (eqb (length (i .marks)) memoryWords && zeroOne (i .marks)) _ 1 (a .1) in
+    let b = met (eqb (length (i .marks)) memoryWords) _ 1 (a .1) in
     let c = passed (ltb breakLimit (length (i .breaks))) 2 _ (b .1) in
     let d = passed (ltb budgetLimit (i .budget)) 3 _ (c .1) in
     record {
       short = ltb-false memoryWords (length (i .image)) (a .0);
-      full = eqb-true (length (i .marks)) memoryWords (both (eqb (length (i .marks)) memoryWords) (zeroOne (i .marks)) (b .0) .0);
+      full = eqb-true (length (i .marks)) memoryWords (b .0);
       few = ltb-false breakLimit (length (i .breaks)) (c .0);
       allowed = ltb-false budgetLimit (i .budget) (d .0);
     }
@@ -91,18 +91,12 @@ pub words-at : (image : List ℕ) (a : ℕ) → a < memoryWords → getD (imageW
 unfolding imageWords
 words-at image a h = padded-at (take memoryWords image) (memoryWords - length image) a ∙ getD-take memoryWords image a 0 h
 
--- ---- marks of 0 hide nothing, and all others hide
+-- ---- what a clearance hides of a union
 
-pub marked-zero : (m : ℕ) → marked m ≡ false → m ≡ 0
-marked-zero m e = eqb-true m 0 (not-false (eqb m 0) e)
+pub or-false : (a b : Bool) → (a || b) ≡ false → (a ≡ false) × (b ≡ false)
+or-false true true e = (e, e)
+or-false true false e = (e, refl)
+or-false false b e = (refl, e)
 
-pub zero-marked : (m : ℕ) → m ≡ 0 → marked m ≡ false
-zero-marked m e = rw (eq-eqb m 0 e)
-
-pub marked-joins : Joins marked
-marked-joins = record {
-  none = refl;
-  both = λ a b e.
-      let h : max a b ≡ 0 = marked-zero (max a b) e in
-      (zero-marked a (omega arith), zero-marked b (omega arith));
-}
+pub clearance-joins : (c : ℕ) → Joins (hiddenFrom c)
+clearance-joins c = record { none = hidden-none c; both = λ a b e. or-false (hiddenFrom c a) (hiddenFrom c b) (sym (hidden-either c a b) ∙ e) }

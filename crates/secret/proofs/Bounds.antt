@@ -38,6 +38,7 @@ use Rattle.guard.specs.Stops.{Verdict, go, stop, after, stopNumber}
 use Rattle.vm.specs.Run.{closed}
 use Rattle.vm.specs.Calls.{restarted}
 use Rattle.vm.specs.Guard.{Guarded, guardedStep, guardedEnd, guard, guardedRun, guardedStart, guardedOf}
+use Rattle.marks.specs.Owners.{hiddenFrom}
 use Rattle.guard.specs.Input.{Input}
 use Rattle.trace.proofs.Lists.{few, below-of, distinct-snoc}
 use Rattle.vm.proofs.Ticks.{short-text}
@@ -257,19 +258,19 @@ module _ (hid : ℕ → Bool) where
       at go c = c
       at (stop e) c = closed-bounded e (g .machine) b
 
-  start-bounded : (image marks : List ℕ) → Bounded (guardedStart image marks .machine)
-  unfolding guardedStart restarted liveTrace distinct
-  start-bounded image marks = record {
-    control = record { pc = omega arith; mar = omega arith };
-    trace = omega arith;
-    texts = λ i. none-fits;
-    differ = refl;
-    touched = λ i. omega arith;
-  }
+start-bounded : (image marks : List ℕ) → Bounded (guardedStart image marks .machine)
+unfolding guardedStart restarted liveTrace distinct
+start-bounded image marks = record {
+  control = record { pc = omega arith; mar = omega arith };
+  trace = omega arith;
+  texts = λ i. none-fits;
+  differ = refl;
+  touched = λ i. omega arith;
+}
 
-  pub guarded-bounded : (i : Input) → Bounded (guardedOf hid i .guarded .machine)
-  unfolding guardedOf
-  guarded-bounded i = run-bounded (i .breaks) 0 (i .budget) (guardedStart (i .image) (i .marks)) (start-bounded (i .image) (i .marks))
+pub guarded-bounded : (i : Input) → Bounded (guardedOf i .guarded .machine)
+unfolding guardedOf
+guarded-bounded i = run-bounded (hiddenFrom (i .clearance)) (i .breaks) 0 (i .budget) (guardedStart (i .image) (i .marks)) (start-bounded (i .image) (i .marks))
 
 -- at most 256 addresses are different
 pub touched-few : (m : Machine) → Bounded m → length (m .touched) ≤ memoryWords

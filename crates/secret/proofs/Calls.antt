@@ -17,12 +17,12 @@ use Rattle.trace.specs.Trace.{liveLengths, shortTexts, traceLimit}
 use Rattle.vm.specs.Refusal.{partsOk}
 use Rattle.vm.specs.Calls.{viewOf, isMachine, imageWords}
 use Rattle.vm.specs.Machine.{Machine}
-use Rattle.marks.specs.Marks.{marked}
+use Rattle.marks.specs.Owners.{hiddenFrom}
 use Rattle.vm.specs.Guard.{Guarded, GuardedEnd, guardedOf}
 use Rattle.guard.specs.Stops.{stopNumber}
 use Rattle.guard.specs.Input.{Input, inputRefusal}
 use Rattle.secret.specs.declared.Reported.the-variants.{Refused}
-use Rattle.secret.specs.Report.{noRecord, headRecord, startRecords, breakRecord, eachRecord, endRecords, endBytes, reportOn, reportBytes}
+use Rattle.secret.specs.Report.{noRecord, headOf, startRecords, breakRecord, eachRecord, endRecords, endBytes, reportOn, reportBytes}
 use Rattle.secret.specs.Forms.{Reportable}
 use Rattle.secret.specs.Widths.{reportLimit}
 use Rattle.secret.specs.Public.{reportRefusal}
@@ -42,11 +42,11 @@ module _ (m : Code) (ok : isMachine m ≡ true) where
       let d = both (shortTexts (liveLengths (m .«trace_start») (m .«trace_len») (m .lengths))) _ (c .1) .1 in
       (leb-true (m .«trace_len») traceLimit (c .0), leb-true (m .«touched_len») memoryWords (both (leb (m .«touched_len») memoryWords) _ d .0))
 
-  pub reportable : (i : Input) → viewOf m ≡ guardedOf marked i .guarded .machine → Reportable m
+  pub reportable : (i : Input) → viewOf m ≡ guardedOf i .guarded .machine → Reportable m
   reportable i e = record {
     trace = counts-fit .0;
     touched = counts-fit .1;
-    texts = λ j. subst (λ (x : Machine). padded textWidth (textOf (getD (x .trace) j noRecord .text)) ≡ getD (x .trace) j noRecord .text .bytes) (sym e) (whole-array _ (guarded-bounded marked i .texts j));
+    texts = λ j. subst (λ (x : Machine). padded textWidth (textOf (getD (x .trace) j noRecord .text)) ≡ getD (x .trace) j noRecord .text .bytes) (sym e) (whole-array _ (guarded-bounded i .texts j));
   }
 
 -- ---- the answer
@@ -71,22 +71,21 @@ module _ (i : Input) (out : List ℕ) where
   unfolding reportRefusal
   room e h = rw (eq-eqb (inputRefusal i) 0 e, le-ltb (length out) reportLimit h)
 
-  pub answered : reportRefusal i (length out) ≡ 0 → delivered (reportBytes marked i) out ≡ reportOutcome i out
+  pub answered : reportRefusal i (length out) ≡ 0 → delivered (reportBytes i) out ≡ reportOutcome i out
   unfolding reportOutcome
   answered e = rw e
 
   -- e is how the run ended, of which the report was written: its stop by number, and the machine with its marks
-  pub call-served : (e : GuardedEnd) → stopNumber (e .stop) ≡ stopNumber (guardedOf marked i .stop) → e .guarded ≡ guardedOf marked i .guarded → inputRefusal i ≡ 0 → reportLimit ≤ length out → {o : Outcome Told}
-      → o ≡ delivered (reportOn marked i (record { stop = e .stop; executed = 0; guarded = e .guarded })) out → o ≡ reportOutcome i out
+  pub call-served : (e : GuardedEnd) → stopNumber (e .stop) ≡ stopNumber (guardedOf i .stop) → e .guarded ≡ guardedOf i .guarded → inputRefusal i ≡ 0 → reportLimit ≤ length out → {o : Outcome Told}
+      → o ≡ delivered (reportOn i (record { stop = e .stop; executed = 0; guarded = e .guarded })) out → o ≡ reportOutcome i out
   unfolding reportBytes reportOn endBytes
   call-served e p g q h r = r ∙ (λ k. delivered (whole (p k) (g k)) out) ∙ answered (room q h)
     where
       whole : ℕ → Guarded → List ℕ
       whole n x =
-          headRecord (length (i .image)) (i .budget) (length (i .breaks))
-          ++ (startRecords marked (imageWords (i .image)) (i .marks)
-          ++ (eachRecord breakRecord (i .breaks) ++ endRecords marked n (x .machine) (x .marks)))
+          let hid = hiddenFrom (i .clearance) in
+          headOf i ++ (startRecords hid (imageWords (i .image)) (i .marks) ++ (eachRecord breakRecord (i .breaks) ++ endRecords hid n (x .machine) (x .marks)))
 
   -- ---- the report that a call leaves
-  pub report-left : reportRefusal i (length out) ≡ 0 → reportIn (reportOutcome i out) ≡ reportBytes marked i
-  report-left e = ap reportIn (sym (answered e)) ∙ take-over out (reportBytes marked i)
+  pub report-left : reportRefusal i (length out) ≡ 0 → reportIn (reportOutcome i out) ≡ reportBytes i
+  report-left e = ap reportIn (sym (answered e)) ∙ take-over out (reportBytes i)

@@ -1,4 +1,4 @@
--- The first 1,037 bytes decide every answer of the report program (`specs/Program.antt`): the longest input that is served has 1,036, and one more shows that an input is longer than its counts say.
+-- The first 1,038 bytes decide every answer of the report program (`specs/Program.antt`): the longest input that is served has 1,037, and one more shows that an input is longer than its counts say.
 -- Assumes nothing.
 use Prim.Native.Nat.{ℕ, zero, suc, _+_, _-_, _≤_, _<_}
 use native.Mathlib.Omega.{arith}
@@ -12,7 +12,7 @@ use lib.Seq.{length-take-le, take-all, take-add, take-take, drop-at, getD-take}
 use Rattle.encoding.specs.Bytes.{number, readNumber, written}
 use Rattle.encoding.proofs.Written.{take-over, written-fits, length-written}
 use Rattle.secret.specs.Widths.{reportLimit}
-use Rattle.secret.specs.Program.{inputLength, imageLength, marksAt, budgetAt, countAt, breaksAt, budgetIn, breakCount, badMarks, firstRefusal, bytesRefusal, bytesOutcome}
+use Rattle.secret.specs.Program.{inputLength, imageLength, budgetAt, countAt, lengthDue, budgetIn, breakCount, firstRefusal, bytesRefusal, bytesOutcome}
 use Rattle.secret.proofs.Programs.{bytes-passed, bytes-end, bytes-refused}
 
 -- ---- what lies in the first k bytes is read there
@@ -28,34 +28,26 @@ module _ (d : List ℕ) (k : ℕ) (long : k ≤ length d) where
       let e : k ≡ at + (k - at) = omega arith in
       ap (λ (j : ℕ). drop at (take j d)) e ∙ rw take-add (drop-at (take at d) (take (k - at) (drop at d)) at (length-take-le at d (omega arith)))
 
-  part-front : (at n : ℕ) → at + n ≤ k → take n (drop at (take k d)) ≡ take n (drop at d)
-  part-front at n h = rw (drop-front at (omega arith)) (take-take n (k - at) (drop at d) (omega arith))
-
   read-front : (at w : ℕ) → at + w ≤ k → readNumber (take k d) at w ≡ readNumber d at w
   unfolding readNumber
   read-front at w h =
       let l : length (take k d) ≡ k = length-take-le k d long in
       rw (l, le-leb (at + w) k h, le-leb (at + w) (length d) (omega arith), drop-front at (omega arith), number-front w (k - at) (drop at d) (omega arith))
 
-  marks-front : (at : ℕ) → at + 256 ≤ k → badMarks (take k d) at ≡ badMarks d at
-  marks-front at h =
-      let l : length (take k d) ≡ k = length-take-le k d long in
-      rw (l, le-leb (at + 256) k h, le-leb (at + 256) (length d) (omega arith), part-front at 256 h)
-
 -- ---- the refusal
 
 -- too long an image is refused first
-long-first : {words : ℕ} (bad : Bool) (count budget room : ℕ) (whole : Bool) → 256 < words → firstRefusal words bad count budget room whole ≡ 1
+long-first : {words : ℕ} (count budget room : ℕ) (whole : Bool) → 256 < words → firstRefusal words count budget room whole ≡ 1
 unfolding firstRefusal
-long-first {words} bad count budget room whole h = rw (lt-ltb 256 words h)
+long-first {words} count budget room whole h = rw (lt-ltb 256 words h)
 
 -- the last test counts only where there are few breakpoints
-last-only : (words : ℕ) (bad : Bool) (count budget room : ℕ) (v w : Bool) → (count ≤ 256 → v ≡ w) → firstRefusal words bad count budget room v ≡ firstRefusal words bad count budget room w
+last-only : (words count budget room : ℕ) (v w : Bool) → (count ≤ 256 → v ≡ w) → firstRefusal words count budget room v ≡ firstRefusal words count budget room w
 unfolding firstRefusal
-last-only words bad count budget room v w h = go (ltb 256 count) refl
+last-only words count budget room v w h = go (ltb 256 count) refl
   where
     chain : Bool → Bool → ℕ
-    chain t x = cond (ltb 256 words) 1 (cond bad 2 (cond t 3 (cond (ltb 1000000 budget) 4 (cond (ltb room reportLimit) 5 (cond x 0 6)))))
+    chain t x = cond (ltb 256 words) 1 (cond t 3 (cond (ltb 1000000 budget) 4 (cond (ltb room reportLimit) 5 (cond x 0 6))))
 
     go : (t : Bool) → ltb 256 count ≡ t → chain t v ≡ chain t w
     go true e = refl
@@ -75,14 +67,14 @@ module _ (b : List ℕ) (room : ℕ) (long : inputLength ≤ length b) where
       go : (t : Bool) → ltb 256 (imageLength b) ≡ t → bytesRefusal front room ≡ bytesRefusal b room
       go true e =
           let h : 256 < imageLength b = ltb-true 256 (imageLength b) e in
-          rw same-count (long-first _ _ _ _ _ h ∙ sym (long-first _ _ _ _ _ h))
+          rw same-count (long-first _ _ _ _ h ∙ sym (long-first _ _ _ _ h))
       go false e =
           let n = imageLength b in
           let h : n ≤ 256 = ltb-false 256 n e in
           let l : length front ≡ inputLength = length-take-le inputLength b long in
-          rw (same-count, marks-front b inputLength long (marksAt n) (omega arith), read-front b inputLength long (countAt n) 2 (omega arith), read-front b inputLength long (budgetAt n) 8 (omega arith))
-          (last-only n (badMarks b (marksAt n)) (breakCount b) (budgetIn b) room _ _
-          (λ k. rw (l, ne-eqb inputLength (breaksAt n + breakCount b) (λ p. omega arith), ne-eqb (length b) (breaksAt n + breakCount b) (λ p. omega arith))))
+          rw (same-count, read-front b inputLength long (countAt n) 2 (omega arith), read-front b inputLength long (budgetAt n) 8 (omega arith))
+          (last-only n (breakCount b) (budgetIn b) room _ _
+          (λ k. rw (l, ne-eqb inputLength (lengthDue n (breakCount b)) (λ p. omega arith), ne-eqb (length b) (lengthDue n (breakCount b)) (λ p. omega arith))))
 
   -- and so long an input is refused
   never-whole : bytesRefusal b room ≡ 0 → ⊥

@@ -1,37 +1,48 @@
--- The records of the input, kinds 01 to 03: equal ones come from equal public inputs.
+-- The records of the input, kinds 09, 02 and 03: equal ones come from equal public inputs.
 -- Assumes nothing.
-use Prim.Native.Nat.{ℕ, _≤_, _<_}
+use Prim.Native.Nat.{ℕ, _<_}
 use native.Mathlib.Omega.{arith}
 use mathlib.Core.Path.{_≡_, refl, sym, ap, _∙_}
 use mathlib.Core.Bool.{Bool}
-use mathlib.Core.List.{List, [], _++_}
+use mathlib.Core.List.{List, [], _∷_, _++_}
 use lib.ListN.{length, getD}
 use lib.Seq.{ext-getD}
-use Rattle.guard.specs.Input.{breakLimit, budgetLimit}
+use Rattle.guard.specs.Input.{Input}
 use Rattle.encoding.specs.Bytes.{bigEndian, eachFrom}
 use Rattle.marks.specs.Marks.{shown}
 use Rattle.isa.specs.Sizes.{memoryWords}
 use Rattle.secret.specs.Widths.{breakLength, startLength, countWidth, numberWidth}
-use Rattle.secret.specs.Report.{headRecord, breakRecord, eachRecord, startRecord, startRecords}
+use Rattle.secret.specs.Report.{headRecord, headOf, breakRecord, eachRecord, startRecord, startRecords}
+use Rattle.secret.proofs.Accepts.{Accepted}
 use Rattle.secret.proofs.Cut.{append-cut, number-cut, row-cut}
 use Rattle.secret.proofs.Shows.{length-head, length-start, start-cut}
 
-head-numbers : {a b c d e f : ℕ} → a ≤ memoryWords → d ≤ memoryWords → b ≤ budgetLimit → e ≤ budgetLimit → c ≤ breakLimit → f ≤ breakLimit → headRecord a b c ≡ headRecord d e f
-    → (a ≡ d) × (b ≡ e) × (c ≡ f)
-unfolding headRecord
-head-numbers {a} {b} {c} {d} {e} {f} ha hd hb he hc hf p =
-    let q : bigEndian countWidth a ++ (bigEndian numberWidth b ++ bigEndian countWidth c) ≡ bigEndian countWidth d ++ (bigEndian numberWidth e ++ bigEndian countWidth f) = cc in
-    let r = number-cut countWidth a d (omega arith) (omega arith) q in
-    let s = number-cut numberWidth b e (omega arith) (omega arith) (r .1) in
-    let t = number-cut countWidth c f {c = []} {d = []} (omega arith) (omega arith) (ap (λ (l : List ℕ). l ++ []) (s .1)) in
-    (r .0, s .0, t .0)
+-- the parts of the head that two inputs have in common
+pub record SameHead (i j : Input) : Type 0 where
+  pub image : length (i .image) ≡ length (j .image)
+  pub budget : i .budget ≡ j .budget
+  pub breaks : length (i .breaks) ≡ length (j .breaks)
+  pub clearance : i .clearance ≡ j .clearance
 
--- the head
-pub head-cut : {a b c d e f : ℕ} {x y : List ℕ} → a ≤ memoryWords → d ≤ memoryWords → b ≤ budgetLimit → e ≤ budgetLimit → c ≤ breakLimit → f ≤ breakLimit → headRecord a b c ++ x ≡ headRecord d e f ++ y
-    → ((a ≡ d) × (b ≡ e) × (c ≡ f)) × (x ≡ y)
-head-cut {a} {b} {c} {d} {e} {f} ha hd hb he hc hf p =
-    let q = append-cut (headRecord a b c) (headRecord d e f) (length-head a b c ∙ sym (length-head d e f)) p in
-    (head-numbers ha hd hb he hc hf (q .0), q .1)
+module _ (i j : Input) (A : Accepted i) (B : Accepted j) where
+  head-numbers : headOf i ≡ headOf j → SameHead i j
+  unfolding headRecord
+  head-numbers p =
+      let rest : Input → List ℕ = λ (k : Input). bigEndian countWidth (length (k .breaks)) ++ (k .clearance ∷ []) in
+      let q : bigEndian countWidth (length (i .image)) ++ (bigEndian numberWidth (i .budget) ++ rest i) ≡ bigEndian countWidth (length (j .image)) ++ (bigEndian numberWidth (j .budget) ++ rest j) = cc in
+      let r = number-cut countWidth (length (i .image)) (length (j .image)) (omega (arith, A .short)) (omega (arith, B .short)) q in
+      let s = number-cut numberWidth (i .budget) (j .budget) (omega (arith, A .allowed)) (omega (arith, B .allowed)) (r .1) in
+      let t = number-cut countWidth (length (i .breaks)) (length (j .breaks)) (omega (arith, A .few)) (omega (arith, B .few)) (s .1) in
+      record { image = r .0; budget = s .0; breaks = t .0; clearance = only (t .1) }
+    where
+      only : {x y : ℕ} → _≡_ {A = List ℕ} (x ∷ []) (y ∷ []) → x ≡ y
+      only e = cc
+
+  -- the head
+  pub head-cut : {x y : List ℕ} → headOf i ++ x ≡ headOf j ++ y → SameHead i j × (x ≡ y)
+  head-cut p =
+      let q = append-cut (headOf i) (headOf j) (length-head (length (i .image)) (i .budget) (length (i .breaks)) (i .clearance) ∙ sym (length-head (length (j .image)) (j .budget) (length (j .breaks)) (j .clearance))) p in
+      (head-numbers (q .0), q .1)
 
 -- the breakpoints
 pub breaks-cut : (l m x y : List ℕ) → length l ≡ length m → eachRecord breakRecord l ++ x ≡ eachRecord breakRecord m ++ y → l ≡ m

@@ -1,4 +1,4 @@
--- The length of a report (01, section 6): a function of the numbers of breakpoints, trace records and touched addresses. No accepted one is over `reportLimit`, 33,933 bytes.
+-- The length of a report (01, section 6): a function of the numbers of breakpoints, trace records and touched addresses. No accepted one is over `reportLimit`, 33,934 bytes.
 -- Assumes nothing.
 use Prim.Native.Nat.{ℕ, _+_, _*_, _≤_, _<_}
 use native.Mathlib.Omega.{arith}
@@ -17,6 +17,7 @@ use Rattle.control.specs.declared.counters.Counters.{Counters}
 use Rattle.trace.specs.declared.records.TraceRecord.{TraceRecord}
 use Rattle.vm.specs.Calls.{imageWords}
 use Rattle.vm.specs.Machine.{Machine}
+use Rattle.marks.specs.Owners.{hiddenFrom}
 use Rattle.marks.specs.Marks.{Marks}
 use Rattle.marks.specs.Total.{hiddenCount}
 use Rattle.vm.specs.Guard.{GuardedEnd, guardedOf}
@@ -25,10 +26,10 @@ use Rattle.guard.specs.Stops.{stopNumber}
 use Rattle.trace.specs.Trace.{traceLimit, addressesAt, phasesAt, columnsLength}
 use Rattle.isa.specs.Sizes.{memoryWords, registerCount, textWidth}
 use Rattle.control.specs.Codes.{faultBytes}
-use Rattle.secret.specs.Report.{headRecord, startRecord, startRecords, indexBytes, addressBytes, breakRecord, touchedRecord, eachRecord, traceBytes, traceRecord, noRecord, traceRecords, valueRecord, valueRecords, countBytes, controlBytes, endRecord, hiddenRecord, endRecords, endBytes, reportOn, reportBytes}
+use Rattle.secret.specs.Report.{headOf, startRecord, startRecords, indexBytes, addressBytes, breakRecord, touchedRecord, eachRecord, traceBytes, traceRecord, noRecord, traceRecords, valueRecord, valueRecords, countBytes, controlBytes, endRecord, hiddenRecord, endRecords, endBytes, reportOn, reportBytes}
 use Rattle.secret.specs.Forms.{slotBytes}
 use Rattle.control.specs.Address.{addressWidth}
-use Rattle.secret.specs.Widths.{indexWidth, startLength, breakLength, traceLength, valueLength, touchedLength, endLength, hiddenLength, lastLength, startsLength, runLength, reportLength, reportLimit}
+use Rattle.secret.specs.Widths.{indexWidth, headLength, startLength, breakLength, traceLength, valueLength, touchedLength, endLength, hiddenLength, lastLength, startsLength, runLength, reportLength, reportLimit}
 use Rattle.secret.specs.Public.{reportRefusal}
 use Rattle.secret.proofs.Accepts.{accepted}
 use Rattle.secret.proofs.Bounds.{live-fits, guarded-bounded, touched-few}
@@ -105,24 +106,6 @@ module _ (hid : ℕ → Bool) where
     length-hidden (hiddenCount hid (k .memory)),
   )
 
-  length-with : (i : Input) → TextsFit (guardedOf hid i .guarded .machine .trace)
-      → length (reportBytes hid i) ≡ reportLength (length (i .breaks)) (length (guardedOf hid i .guarded .machine .trace)) (length (guardedOf hid i .guarded .machine .touched))
-  unfolding reportBytes reportOn endBytes
-  length-with i h =
-      let e = guardedOf hid i in
-      simp (
-        length-append,
-        length-head (length (i .image)) (i .budget) (length (i .breaks)),
-        length-starts hid (imageWords (i .image)) (i .marks),
-        length-breaks (i .breaks),
-        length-records (stopNumber (e .stop)) (e .guarded .machine) (e .guarded .marks) h,
-      )
-
-  -- of every guarded run
-  pub length-report : (i : Input)
-      → length (reportBytes hid i) ≡ reportLength (length (i .breaks)) (length (guardedOf hid i .guarded .machine .trace)) (length (guardedOf hid i .guarded .machine .touched))
-  length-report i = length-with i (λ n. live-fits _ (guarded-bounded hid i .texts n))
-
   -- its last two records: that of the run's end, and how many words are hidden there
   abbrev pub lastRecords : GuardedEnd → List ℕ
   lastRecords e =
@@ -134,30 +117,54 @@ module _ (hid : ℕ → Bool) where
       let k = e .guarded .marks in
       simp (length-append, length-end hid (stopNumber (e .stop)) (e .guarded .machine .state) (e .guarded .machine .counters) (k .mdr), length-hidden (hiddenCount hid (k .memory)))
 
-  pub last-records : (i : Input) (n : ℕ) → n + lastLength ≡ length (reportBytes hid i) → drop n (reportBytes hid i) ≡ lastRecords (guardedOf hid i)
+pub length-head-of : (i : Input) → length (headOf i) ≡ headLength
+length-head-of i = length-head (length (i .image)) (i .budget) (length (i .breaks)) (i .clearance)
+
+module _ (i : Input) where
+  abbrev hides : ℕ → Bool
+  hides = hiddenFrom (i .clearance)
+
+  length-with : TextsFit (guardedOf i .guarded .machine .trace)
+      → length (reportBytes i) ≡ reportLength (length (i .breaks)) (length (guardedOf i .guarded .machine .trace)) (length (guardedOf i .guarded .machine .touched))
+  unfolding reportBytes reportOn endBytes
+  length-with h =
+      let e = guardedOf i in
+      simp (
+        length-append,
+        length-head-of i,
+        length-starts hides (imageWords (i .image)) (i .marks),
+        length-breaks (i .breaks),
+        length-records hides (stopNumber (e .stop)) (e .guarded .machine) (e .guarded .marks) h,
+      )
+
+  -- of every guarded run
+  pub length-report : length (reportBytes i) ≡ reportLength (length (i .breaks)) (length (guardedOf i .guarded .machine .trace)) (length (guardedOf i .guarded .machine .touched))
+  length-report = length-with (λ n. live-fits _ (guarded-bounded i .texts n))
+
+  pub last-records : (n : ℕ) → n + lastLength ≡ length (reportBytes i) → drop n (reportBytes i) ≡ lastRecords hides (guardedOf i)
   unfolding reportBytes reportOn endBytes endRecords
-  last-records i n h =
-      let e = guardedOf hid i in
+  last-records n h =
+      let e = guardedOf i in
       let m = e .guarded .machine in
       let k = e .guarded .marks in
-      let last = lastRecords e in
+      let last = lastRecords hides e in
       let front =
-      headRecord (length (i .image)) (i .budget) (length (i .breaks))
-      ++ (startRecords hid (imageWords (i .image)) (i .marks)
+      headOf i
+      ++ (startRecords hides (imageWords (i .image)) (i .marks)
       ++ (eachRecord breakRecord (i .breaks)
       ++ (traceRecords (m .trace)
-      ++ (valueRecords hid 5 indexBytes registerCount (m .registers) (k .registers)
-      ++ (valueRecords hid 6 addressBytes memoryWords (m .memory) (k .memory) ++ eachRecord touchedRecord (m .touched)))))) in
-      let parts : front ++ last ≡ reportBytes hid i = simp append-assoc in
-      let size : length front + lastLength ≡ length (reportBytes hid i) = sym (ap (λ (x : ℕ). length front + x) (length-last-records e)) ∙ sym (length-append front last) ∙ ap length parts in
+      ++ (valueRecords hides 5 indexBytes registerCount (m .registers) (k .registers)
+      ++ (valueRecords hides 6 addressBytes memoryWords (m .memory) (k .memory) ++ eachRecord touchedRecord (m .touched)))))) in
+      let parts : front ++ last ≡ reportBytes i = simp append-assoc in
+      let size : length front + lastLength ≡ length (reportBytes i) = sym (ap (λ (x : ℕ). length front + x) (length-last-records hides e)) ∙ sym (length-append front last) ∙ ap length parts in
       ap (drop n) (sym parts) ∙ drop-at front last n (omega arith)
 
 -- none is empty
-pub report-some : (hid : ℕ → Bool) (i : Input) → 0 < length (reportBytes hid i)
-report-some hid i = rw (length-report hid i) (omega arith)
+pub report-some : (i : Input) → 0 < length (reportBytes i)
+report-some i = rw (length-report i) (omega arith)
 
 -- the limit as a number
-pub limit-number : reportLimit ≡ 33933
+pub limit-number : reportLimit ≡ 33934
 limit-number = refl
 
 -- no larger length comes of numbers that are not larger
@@ -165,9 +172,9 @@ pub limit-holds : (breaks trace touched : ℕ) → breaks ≤ breakLimit → tra
 limit-holds breaks trace touched b t a = omega arith
 
 -- a report that is not refused fits its buffer
-pub report-fits : (hid : ℕ → Bool) (i : Input) (room : ℕ) → reportRefusal i room ≡ 0 → (length (reportBytes hid i) ≤ reportLimit) × (reportLimit ≤ room)
-report-fits hid i room e =
+pub report-fits : (i : Input) (room : ℕ) → reportRefusal i room ≡ 0 → (length (reportBytes i) ≤ reportLimit) × (reportLimit ≤ room)
+report-fits i room e =
     let a = accepted i room e in
-    let b = guarded-bounded hid i in
-    let m = guardedOf hid i .guarded .machine in
-    (rw (length-report hid i) (limit-holds (length (i .breaks)) (length (m .trace)) (length (m .touched)) (a .0 .few) (b .trace) (touched-few m b)), a .1)
+    let b = guarded-bounded i in
+    let m = guardedOf i .guarded .machine in
+    (rw (length-report i) (limit-holds (length (i .breaks)) (length (m .trace)) (length (m .touched)) (a .0 .few) (b .trace) (touched-few m b)), a .1)

@@ -10,19 +10,18 @@ use lib.Dec.{eqb, ltb}
 use lib.ListN.{length, take, drop, getD, length-drop}
 use lib.Seq.{length-take-le, getD-drop}
 use Rattle.isa.specs.Sizes.{memoryWords}
-use Rattle.encoding.specs.Bytes.{within, numbers, readNumber, readWords}
+use Rattle.encoding.specs.Bytes.{numbers, readNumber, readWords}
 use Rattle.encoding.proofs.Written.{take-over}
 use Rattle.encoding.proofs.Numbers.{length-numbers, numbers-below}
 use Rattle.history.proofs.Parts.{words-inside}
-use Rattle.marks.specs.Marks.{marked}
-use Rattle.guard.specs.Input.{inputFrom, zeroOne, inputRefusal, breakLimit, budgetLimit}
+use Rattle.guard.specs.Input.{inputFrom, guardRefusal, breakLimit, budgetLimit}
 use Rattle.secret.specs.declared.Reported.the-variants.{Written, Refused}
 use Rattle.secret.specs.Report.{reportBytes}
 use Rattle.secret.specs.Widths.{reportLimit}
 use Rattle.secret.specs.Public.{reportRefusal}
 use Rattle.encoding.specs.Answer.{Outcome, Told, outcome, unlessRefused}
 use Rattle.secret.specs.Outcome.{told, delivered, reportOutcome, reportIn}
-use Rattle.secret.specs.Program.{imageLength, marksAt, budgetAt, countAt, breaksAt, budgetIn, breakCount, inputOf, badMarks, firstRefusal, bytesRefusal, bytesOutcome}
+use Rattle.secret.specs.Program.{imageLength, marksAt, budgetAt, countAt, breaksAt, clearanceAt, lengthDue, budgetIn, breakCount, inputOf, firstRefusal, bytesRefusal, bytesOutcome}
 use Rattle.secret.proofs.Accepts.{passed, met}
 use Rattle.secret.proofs.Calls.{answered, refused-number}
 use Rattle.secret.proofs.Lengths.{report-fits, report-some}
@@ -30,25 +29,22 @@ use Rattle.secret.proofs.Lengths.{report-fits, report-some}
 -- ---- the tests
 
 -- all are passed
-pub record Passed (words : ℕ) (bad : Bool) (count budget room : ℕ) (whole : Bool) : Type 0 where
+pub record Passed (words count budget room : ℕ) (whole : Bool) : Type 0 where
   pub short : words ≤ memoryWords
-  pub good : bad ≡ false
   pub few : count ≤ breakLimit
   pub allowed : budget ≤ budgetLimit
   pub roomy : reportLimit ≤ room
   pub ends : whole ≡ true
 
-pub all-passed : (words : ℕ) (bad : Bool) (count budget room : ℕ) (whole : Bool) → firstRefusal words bad count budget room whole ≡ 0 → Passed words bad count budget room whole
+pub all-passed : (words count budget room : ℕ) (whole : Bool) → firstRefusal words count budget room whole ≡ 0 → Passed words count budget room whole
 unfolding firstRefusal
-all-passed words bad count budget room whole e =
+all-passed words count budget room whole e =
     let a = passed (ltb memoryWords words) 0 _ e in
-    let b = passed bad 1 _ (a .1) in
-    let c = passed (ltb breakLimit count) 2 _ (b .1) in
+    let c = passed (ltb breakLimit count) 2 _ (a .1) in
     let d = passed (ltb budgetLimit budget) 3 _ (c .1) in
     let f = passed (ltb room reportLimit) 4 _ (d .1) in
     record {
       short = ltb-false memoryWords words (a .0);
-      good = b .0;
       few = ltb-false breakLimit count (c .0);
       allowed = ltb-false budgetLimit budget (d .0);
       roomy = ltb-false room reportLimit (f .0);
@@ -58,37 +54,35 @@ all-passed words bad count budget room whole e =
 -- ---- an input that is not refused
 
 module _ (b : List ℕ) (room : ℕ) (e : bytesRefusal b room ≡ 0) where
-  pub bytes-passed : Passed (imageLength b) (badMarks b (marksAt (imageLength b))) (breakCount b) (budgetIn b) room (eqb (length b) (breaksAt (imageLength b) + breakCount b))
+  pub bytes-passed : Passed (imageLength b) (breakCount b) (budgetIn b) room (eqb (length b) (lengthDue (imageLength b) (breakCount b)))
   unfolding bytesRefusal
-  bytes-passed = all-passed _ _ _ _ _ _ e
+  bytes-passed = all-passed _ _ _ _ _ e
 
-  pub bytes-end : length b ≡ breaksAt (imageLength b) + breakCount b
-  bytes-end = eqb-true (length b) (breaksAt (imageLength b) + breakCount b) (bytes-passed .ends)
+  pub bytes-end : length b ≡ lengthDue (imageLength b) (breakCount b)
+  bytes-end = eqb-true (length b) (lengthDue (imageLength b) (breakCount b)) (bytes-passed .ends)
 
 -- ---- an input as long as its counts say
 
--- the call's refusal and the program's, by the tests of the image, the marks, the breakpoints, the budget and the buffer
-abbrev byCall : Bool → Bool → Bool → Bool → ℕ
-byCall a z c d = cond a 1 (cond z (cond c 3 (cond d 4 0)) 2)
+-- the call's refusal and the program's, by the tests of the image, the breakpoints, the budget and the buffer; the marks are all there
+abbrev byCall : Bool → Bool → Bool → ℕ
+byCall a c d = cond a 1 (cond c 3 (cond d 4 0))
 
-agree : (a z c d f : Bool) → _≡_ {A = ℕ} (cond a 1 (cond (not z) 2 (cond c 3 (cond d 4 (cond f 5 0))))) (cond (eqb (byCall a z c d) 0) (cond f 5 0) (byCall a z c d))
-agree true z c d f = refl
-agree false false c d f = refl
-agree false true true d f = refl
-agree false true false true f = refl
-agree false true false false f = refl
+agree : (a c d f : Bool) → _≡_ {A = ℕ} (cond a 1 (cond c 3 (cond d 4 (cond f 5 0)))) (cond (eqb (byCall a c d) 0) (cond f 5 0) (byCall a c d))
+agree true c d f = refl
+agree false true d f = refl
+agree false false true f = refl
+agree false false false f = refl
 
 -- it is refused where the call for a report refuses
-pub whole-refusal : (b : List ℕ) (room : ℕ) → length b ≡ breaksAt (imageLength b) + breakCount b → bytesRefusal b room ≡ reportRefusal (inputOf b) room
-unfolding bytesRefusal firstRefusal reportRefusal inputRefusal inputOf
+pub whole-refusal : (b : List ℕ) (room : ℕ) → length b ≡ lengthDue (imageLength b) (breakCount b) → bytesRefusal b room ≡ reportRefusal (inputOf b) room
+unfolding bytesRefusal firstRefusal reportRefusal guardRefusal inputOf
 whole-refusal b room l =
     let n = imageLength b in
     let k = breakCount b in
-    let w : within b (marksAt n) memoryWords ≡ true = le-leb (marksAt n + memoryWords) (length b) (omega arith) in
     let i : length (numbers 2 n (drop 2 b)) ≡ n = length-numbers 2 n (drop 2 b) in
     let m : length (take memoryWords (drop (marksAt n) b)) ≡ memoryWords = length-take-le memoryWords (drop (marksAt n) b) (rw length-drop (omega arith)) in
     let s : length (take k (drop (breaksAt n) b)) ≡ k = length-take-le k (drop (breaksAt n) b) (rw length-drop (omega arith)) in
-    rw (eq-eqb (length b) (breaksAt n + k) l, w, i, m, s) (agree (ltb memoryWords n) (zeroOne (take memoryWords (drop (marksAt n) b))) (ltb breakLimit k) (ltb budgetLimit (budgetIn b)) (ltb room reportLimit))
+    rw (eq-eqb (length b) (lengthDue n k) l, i, m, s) (agree (ltb memoryWords n) (ltb breakLimit k) (ltb budgetLimit (budgetIn b)) (ltb room reportLimit))
 
 -- what the program does not refuse, the call does not
 pub bytes-accepted : (b : List ℕ) (room : ℕ) → bytesRefusal b room ≡ 0 → reportRefusal (inputOf b) room ≡ 0
@@ -99,7 +93,7 @@ bytes-accepted b room e = sym (whole-refusal b room (bytes-end b room e)) ∙ e
 module _ (b out : List ℕ) where
   pub bytes-refused : {n : ℕ} → n ≡ bytesRefusal b (length out) → (n ≡ 0 → ⊥) → outcome (told (Refused n)) out ≡ bytesOutcome b out
   unfolding bytesOutcome
-  bytes-refused {n} e h = refused-number n out _ h ∙ ap (λ (k : ℕ). unlessRefused k out (delivered (reportBytes marked (inputOf b)) out)) e
+  bytes-refused {n} e h = refused-number n out _ h ∙ ap (λ (k : ℕ). unlessRefused k out (delivered (reportBytes (inputOf b)) out)) e
 
   pub bytes-served : bytesRefusal b (length out) ≡ 0 → reportOutcome (inputOf b) out ≡ bytesOutcome b out
   unfolding bytesOutcome
@@ -110,8 +104,8 @@ module _ (b out : List ℕ) where
   unfolding bytesOutcome
   bytes-at-most = go (bytesRefusal b (length out)) refl
     where
-      go : (r : ℕ) → bytesRefusal b (length out) ≡ r → unlessRefused r out (delivered (reportBytes marked (inputOf b)) out) .answer .length ≤ reportLimit
-      go zero e = report-fits marked (inputOf b) (length out) (bytes-accepted b (length out) e) .0
+      go : (r : ℕ) → bytesRefusal b (length out) ≡ r → unlessRefused r out (delivered (reportBytes (inputOf b)) out) .answer .length ≤ reportLimit
+      go zero e = report-fits (inputOf b) (length out) (bytes-accepted b (length out) e) .0
       go (suc r) e = omega arith
 
   -- the number that is answered is that of the refusal
@@ -119,17 +113,17 @@ module _ (b out : List ℕ) where
   unfolding bytesOutcome
   bytes-told = go (bytesRefusal b (length out))
     where
-      go : (r : ℕ) → unlessRefused r out (delivered (reportBytes marked (inputOf b)) out) .answer .refused ≡ r
+      go : (r : ℕ) → unlessRefused r out (delivered (reportBytes (inputOf b)) out) .answer .refused ≡ r
       go zero = refl
       go (suc r) = refl
 
   -- what is left where nothing is refused, and where something is
-  pub bytes-left : bytesRefusal b (length out) ≡ 0 → bytesOutcome b out ≡ delivered (reportBytes marked (inputOf b)) out
+  pub bytes-left : bytesRefusal b (length out) ≡ 0 → bytesOutcome b out ≡ delivered (reportBytes (inputOf b)) out
   unfolding bytesOutcome
   bytes-left e = rw e
 
-  pub bytes-report : bytesRefusal b (length out) ≡ 0 → reportIn (bytesOutcome b out) ≡ reportBytes marked (inputOf b)
-  bytes-report e = ap reportIn (bytes-left e) ∙ take-over out (reportBytes marked (inputOf b))
+  pub bytes-report : bytesRefusal b (length out) ≡ 0 → reportIn (bytesOutcome b out) ≡ reportBytes (inputOf b)
+  bytes-report e = ap reportIn (bytes-left e) ∙ take-over out (reportBytes (inputOf b))
 
   pub bytes-kept : (bytesRefusal b (length out) ≡ 0 → ⊥) → bytesOutcome b out .buffer ≡ out
   bytes-kept h = ap (λ (o : Outcome Told). o .buffer) (sym (bytes-refused refl h))
@@ -143,8 +137,8 @@ module _ (b out : List ℕ) where
       let e : n ≡ bytesRefusal b (length out) = ap (λ (x : Outcome Told). x .answer .refused) h ∙ bytes-told in (
         e,
         λ z.
-            let l : 0 ≡ length (reportBytes marked (inputOf b)) = ap (λ (x : Outcome Told). x .answer .length) (h ∙ bytes-left (sym e ∙ z)) in
-            omega (arith, report-some marked (inputOf b)),
+            let l : 0 ≡ length (reportBytes (inputOf b)) = ap (λ (x : Outcome Told). x .answer .length) (h ∙ bytes-left (sym e ∙ z)) in
+            omega (arith, report-some (inputOf b)),
       )
 
 -- ---- words of 16 bits
@@ -155,19 +149,19 @@ image-below b h = numbers-below 2 (imageLength b) (drop 2 b) (λ i. rw getD-drop
 
 -- ---- what the code reads
 
--- the numbers n, count and budget, and whether a mark is bad
+-- the numbers n, count and budget
 module _ (b : List ℕ) {n count budget : ℕ} (i : n ≡ imageLength b) (k : count ≡ readNumber b (countAt n) 2) (g : budget ≡ readNumber b (budgetAt n) 8) where
-  pub refusal-read : (room : ℕ) {bad : Bool} → bad ≡ badMarks b (marksAt n) → firstRefusal n bad count budget room (eqb (length b) (breaksAt n + count)) ≡ bytesRefusal b room
+  pub refusal-read : (room : ℕ) → firstRefusal n count budget room (eqb (length b) (lengthDue n count)) ≡ bytesRefusal b room
   unfolding bytesRefusal
-  refusal-read room m = rw (m, k, g, i)
+  refusal-read room = rw (k, g, i)
 
-  -- the words ws, the bytes between marks and budget, those behind the count
-  pub input-read : {ws : List ℕ} → ws ≡ numbers 2 n (drop 2 b) → length b ≡ breaksAt n + count
-      → inputFrom ws (take (budgetAt n - marksAt n) (drop (marksAt n) b)) budget (take (length b - breaksAt n) (drop (breaksAt n) b)) ≡ inputOf b
+  -- the words ws, the bytes between marks and budget, those behind the count up to the last, the last
+  pub input-read : {ws : List ℕ} → ws ≡ numbers 2 n (drop 2 b)
+      → inputFrom ws (take (budgetAt n - marksAt n) (drop (marksAt n) b)) budget (take (clearanceAt n count - breaksAt n) (drop (breaksAt n) b)) (getD b (clearanceAt n count) 0) ≡ inputOf b
   unfolding inputOf
-  input-read w l =
+  input-read w =
       let p : budgetAt n - marksAt n ≡ 256 = omega arith in
-      let q : length b - breaksAt n ≡ count = omega arith in
+      let q : clearanceAt n count - breaksAt n ≡ count = omega arith in
       rw (w, p, q, k, g, i)
 
 -- words into the front of an array

@@ -17,7 +17,7 @@ use Rattle.disasm.specs.Disassembly.{disassembleText}
 use Rattle.disasm.proofs.Texts.{disassembly-padded}
 use Rattle.disasm.proofs.Whole.{field-tells}
 use Rattle.control.specs.declared.counters.Counters.{Counters}
-use Rattle.marks.specs.Marks.{marked, shown}
+use Rattle.marks.specs.Marks.{shown}
 use Rattle.isa.specs.Sizes.{textWidth}
 use Rattle.secret.proofs.Levels.{Twin}
 use Rattle.control.specs.Address.{addressWidth}
@@ -27,9 +27,9 @@ use Rattle.secret.proofs.Cut.{append-cut, number-same}
 
 -- ---- lengths
 
-pub length-head : (a b c : ℕ) → length (headRecord a b c) ≡ headLength
+pub length-head : (a b c d : ℕ) → length (headRecord a b c d) ≡ headLength
 unfolding headRecord bigEndian
-length-head a b c = refl
+length-head a b c d = refl
 
 -- an address below 256 is one byte, itself
 pub address-byte : (a : ℕ) → a < 256 → addressBytes a ≡ a ∷ []
@@ -132,21 +132,21 @@ one-put d at k h =
     let next : suc at ≡ at + 1 = omega arith in
     set-split d at k (omega (arith, h)) ∙ ap (λ (n : ℕ). take at d ++ (k ∷ drop n d)) next ∙ sym (written-fits d at (k ∷ []) h)
 
-module _ (d : List ℕ) (at : ℕ) {o : List ℕ} where
+module _ (hid : ℕ → Bool) (d : List ℕ) (at : ℕ) {o : List ℕ} where
   -- a text, by the mark
-  pub text-open : (m w : ℕ) → at + textWidth ≤ length d → marked m ≡ false → o ≡ written d at (padded textWidth (disassembleText w)) → o ≡ over d at (shownText marked m w)
+  pub text-open : (m w : ℕ) → at + textWidth ≤ length d → hid m ≡ false → o ≡ written d at (padded textWidth (disassembleText w)) → o ≡ over d at (shownText hid m w)
   unfolding shownText
   text-open m w h e p =
       let l : length (padded textWidth (disassembleText w)) ≡ textWidth = disassembly-padded w in
       p ∙ written-fits d at (padded textWidth (disassembleText w)) (omega arith) ∙ sym (ap (λ (b : Bool). over d at (padded textWidth (cond b [] (disassembleText w)))) e)
 
-  pub text-marked : (m w : ℕ) → at + textWidth ≤ length d → marked m ≡ true → o ≡ written d at (replicate textWidth 0) → o ≡ over d at (shownText marked m w)
+  pub text-hidden : (m w : ℕ) → at + textWidth ≤ length d → hid m ≡ true → o ≡ written d at (replicate textWidth 0) → o ≡ over d at (shownText hid m w)
   unfolding shownText padded
-  text-marked m w h e p = p ∙ written-fits d at (replicate textWidth 0) h ∙ sym (ap (λ (b : Bool). over d at (padded textWidth (cond b [] (disassembleText w)))) e)
+  text-hidden m w h e p = p ∙ written-fits d at (replicate textWidth 0) h ∙ sym (ap (λ (b : Bool). over d at (padded textWidth (cond b [] (disassembleText w)))) e)
 
   -- a kind, an index of w bytes, and the mark with the value s
-  pub value-put : (kind w i m v : ℕ) {s : ℕ} → at + valueLength w ≤ length d → s ≡ shown marked m v
-      → o ≡ written (written (set d at kind) (at + 1) (bigEndian w i)) (at + 1 + w) (m ∷ s / 256 % 256 ∷ s % 256 ∷ []) → o ≡ over d at (valueRecord marked kind (bigEndian w i) m v)
+  pub value-put : (kind w i m v : ℕ) {s : ℕ} → at + valueLength w ≤ length d → s ≡ shown hid m v
+      → o ≡ written (written (set d at kind) (at + 1) (bigEndian w i)) (at + 1 + w) (m ∷ s / 256 % 256 ∷ s % 256 ∷ []) → o ≡ over d at (valueRecord hid kind (bigEndian w i) m v)
   unfolding valueRecord bigEndian
   value-put kind w i m v {s} h e p =
       p

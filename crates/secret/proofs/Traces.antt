@@ -3,6 +3,7 @@
 use Prim.Native.Nat.{ℕ, _+_, _*_, _%_, _≤_, _<_}
 use native.Mathlib.Omega.{arith}
 use mathlib.Core.Path.{_≡_, sym, ap, _∙_}
+use mathlib.Core.Bool.{Bool}
 use mathlib.Core.List.{List, [], _∷_, _++_, append-assoc}
 use lib.ListN.{length, take, getD, length-append}
 use lib.Seq.{getD-take, length-take-le}
@@ -12,7 +13,6 @@ use Rattle.isa.specs.Text.{padded, textOf}
 use Rattle.vm.specs.declared.machine.Machine.{Machine as Code}
 use Rattle.trace.specs.declared.records.TraceRecord.{TraceRecord}
 use Rattle.vm.specs.Calls.{viewOf}
-use Rattle.marks.specs.Marks.{marked}
 use Rattle.marks.specs.Total.{hiddenCount}
 use Rattle.trace.specs.Trace.{slots, turn, recordAt, liveTrace, textsIn, addressesIn, phasesIn, columnsLength, traceLimit, addressesAt, phasesAt}
 use Rattle.trace.proofs.Rings.{length-slots, column-at, text-at}
@@ -61,38 +61,38 @@ length-slots-of m e =
     length-each traceLength (λ j. slotBytes (m .columns) (m .numbers) ((m .«trace_start» % traceLimit + j) % traceLimit)) 0 (m .«trace_len»)
     (λ j. length-slot (m .columns) (m .numbers) ((m .«trace_start» % traceLimit + j) % traceLimit) e (omega arith))
 
-module _ (m : Code) (r : Reportable m) (stop mark : ℕ) (rm mm : List ℕ) where
+module _ (hid : ℕ → Bool) (m : Code) (r : Reportable m) (stop mark : ℕ) (rm mm : List ℕ) where
   abbrev cells : List ℕ
-  cells = valueRecords marked 5 indexBytes registerCount (m .registers) rm ++ valueRecords marked 6 addressBytes memoryWords (m .memory) mm
+  cells = valueRecords hid 5 indexBytes registerCount (m .registers) rm ++ valueRecords hid 6 addressBytes memoryWords (m .memory) mm
 
   abbrev last : List ℕ
-  last = eachRecord touchedRecord (take (m .«touched_len») (m .touched)) ++ (endRecord marked stop (m .state) (m .counters) mark ++ hiddenRecord (hiddenCount marked mm))
+  last = eachRecord touchedRecord (take (m .«touched_len») (m .touched)) ++ (endRecord hid stop (m .state) (m .counters) mark ++ hiddenRecord (hiddenCount hid mm))
 
   -- the pieces in one
-  run-bytes : length (m .columns) ≡ columnsLength → slotsOf m ++ (cells ++ last) ≡ endRecords marked stop (viewOf m) (record { memory = mm; registers = rm; mdr = mark })
+  run-bytes : length (m .columns) ≡ columnsLength → slotsOf m ++ (cells ++ last) ≡ endRecords hid stop (viewOf m) (record { memory = mm; registers = rm; mdr = mark })
   unfolding endRecords
-  run-bytes e = rw (trace-slots m r e, append-assoc (valueRecords marked 5 indexBytes registerCount (m .registers) rm))
+  run-bytes e = rw (trace-slots m r e, append-assoc (valueRecords hid 5 indexBytes registerCount (m .registers) rm))
 
   pub length-cells : length cells ≡ cellsLength
-  length-cells = simp (length-append, length-values marked 5 indexWidth registerCount (m .registers) rm, length-values marked 6 addressWidth memoryWords (m .memory) mm)
+  length-cells = simp (length-append, length-values hid 5 indexWidth registerCount (m .registers) rm, length-values hid 6 addressWidth memoryWords (m .memory) mm)
 
   pub length-last : length (m .touched) ≡ memoryWords → length last ≡ touchedLength * m .«touched_len» + lastLength
   length-last e =
       let h = r .touched in
       let l : length (take (m .«touched_len») (m .touched)) ≡ m .«touched_len» = length-take-le (m .«touched_len») (m .touched) (omega arith) in
-      simp (length-append, length-touches (take (m .«touched_len») (m .touched)), l, length-end marked stop (m .state) (m .counters) mark, length-hidden (hiddenCount marked mm))
+      simp (length-append, length-touches (take (m .«touched_len») (m .touched)), l, length-end hid stop (m .state) (m .counters) mark, length-hidden (hiddenCount hid mm))
 
   -- as the three calls leave them
   pub run-over : (d : List ℕ) (at : ℕ) → length (m .columns) ≡ columnsLength → length (m .touched) ≡ memoryWords → at + runLength (m .«trace_len») (m .«touched_len») ≤ length d
       → over (over (over d at (slotsOf m)) (at + traceLength * m .«trace_len») cells) (at + traceLength * m .«trace_len» + cellsLength) last
-      ≡ over d at (endRecords marked stop (viewOf m) (record { memory = mm; registers = rm; mdr = mark }))
+      ≡ over d at (endRecords hid stop (viewOf m) (record { memory = mm; registers = rm; mdr = mark }))
   run-over d at e f h =
       overs-eq d at ((traceLength * m .«trace_len», slotsOf m) ∷ (cellsLength, cells) ∷ (touchedLength * m .«touched_len» + lastLength, last) ∷ [])
       (length-slots-of m e, (length-cells, (length-last f, tt))) (omega arith)
       ∙ ap (over d at) (run-bytes e)
 
   pub length-run : length (m .columns) ≡ columnsLength → length (m .touched) ≡ memoryWords
-      → length (endRecords marked stop (viewOf m) (record { memory = mm; registers = rm; mdr = mark })) ≡ runLength (m .«trace_len») (m .«touched_len»)
+      → length (endRecords hid stop (viewOf m) (record { memory = mm; registers = rm; mdr = mark })) ≡ runLength (m .«trace_len») (m .«touched_len»)
   length-run e f =
       ap length (sym (run-bytes e))
       ∙ length-joined ((traceLength * m .«trace_len», slotsOf m) ∷ (cellsLength, cells) ∷ (touchedLength * m .«touched_len» + lastLength, last) ∷ []) (length-slots-of m e, (length-cells, (length-last f, tt)))

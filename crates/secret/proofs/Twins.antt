@@ -7,7 +7,7 @@ use mathlib.Core.Path.{_≡_, refl, ap, ap₂, sym, _∙_}
 use mathlib.Core.Bool.{Bool, true, false, cond}
 use mathlib.Core.List.{List, [], _∷_}
 use lib.ListN.{length, getD, set}
-use Rattle.marks.specs.Marks.{joined}
+use Rattle.marks.specs.Owners.{joined}
 use Rattle.secret.proofs.Levels.{Twin, Twins, nil, cons, Joins}
 
 module _ {hid : ℕ → Bool} where

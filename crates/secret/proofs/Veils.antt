@@ -23,13 +23,9 @@ use Rattle.vm.specs.Guard.{Guarded, nextWord, guardedStep}
 use Rattle.guard.specs.Stops.{isJump, hiddenJump}
 use Rattle.secret.proofs.Levels.{Twin, Twins, Level, Joins}
 use Rattle.secret.proofs.Twins.{twin-refl, twin-map, twins-get, twins-set, twin-join, twin-cleared}
+use Rattle.secret.proofs.Accepts.{or-false}
 use Rattle.secret.proofs.Clears.{xor-cleared, shift-cleared}
 use Rattle.vm.proofs.Steps.{Public, publicOf, Hidden, hiddenOf, whole, fetched, fetchedHidden, decoded, finished, instruction-ticks}
-
-or-false : (a b : Bool) → (a || b) ≡ false → (a ≡ false) × (b ≡ false)
-or-false true true e = (e, e)
-or-false true false e = (e, refl)
-or-false false b e = (refl, e)
 
 module _ (hid : ℕ → Bool) where
   -- hidden parts under the same marks

@@ -1,12 +1,12 @@
--- Demand 3 (01, section 6): two accepted guarded runs have equal reports exactly when image length, budget, breakpoint list, marks and each unmarked starting word are the same.
--- So a report tells a researcher nothing of what is marked, and all that is public of its input. `proofs/Theorem.antt` proves what is stated here.
+-- Demand 3 (01, section 6; 02, Change 7): two accepted guarded runs have equal reports exactly when image length, budget, breakpoint list, clearance, owner bytes
+-- and each starting word that is not hidden from that reader are the same.
+-- So a report tells its reader nothing of what is hidden, and all that is public of its input. `proofs/Theorem.antt` proves what is stated here.
 -- Assumes nothing.
 use Prim.Native.Nat.{ℕ, _<_}
 use mathlib.Core.Path.{_≡_}
 use mathlib.Core.Logic.{_↔_}
 use mathlib.Core.List.{List}
 use lib.ListN.{length, getD}
-use Rattle.marks.specs.Marks.{marked}
 use Rattle.guard.specs.Input.{Input}
 use Rattle.secret.specs.Report.{reportBytes}
 use Rattle.secret.specs.Public.{reportRefusal, SamePublic}
@@ -23,7 +23,7 @@ AllBytes b = (i : ℕ) → getD b i 0 < 256
 -- of the reports: the inputs, and the lengths of the buffers that the reports are written to
 abbrev pub DemandThree : Type 0
 DemandThree = (i j : Input) (m n : ℕ) → reportRefusal i m ≡ 0 → reportRefusal j n ≡ 0 → Words i → Words j
-    → (reportBytes marked i ≡ reportBytes marked j) ↔ SamePublic i j
+    → (reportBytes i ≡ reportBytes j) ↔ SamePublic i j
 
 -- of what `report` leaves: the inputs, and the buffers b and d that were lent
 abbrev pub DemandThreeCalls : Type 0

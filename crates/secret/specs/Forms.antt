@@ -9,7 +9,7 @@ use Rattle.trace.specs.Trace.{traceLimit, addressesAt, phasesAt}
 use Rattle.isa.specs.Sizes.{memoryWords, registerCount, textWidth}
 use Rattle.encoding.specs.Bytes.{eachFrom}
 use Rattle.isa.specs.Text.{padded, textOf}
-use Rattle.marks.specs.Marks.{marked}
+use Rattle.marks.specs.Owners.{hiddenFrom}
 use Rattle.marks.specs.Total.{hiddenCount}
 use Rattle.vm.specs.declared.machine.Machine.{Machine as Code}
 use Rattle.guard.specs.declared.stops.GuardedStop.{GuardedStop}
@@ -17,7 +17,7 @@ use Rattle.vm.specs.Calls.{viewOf, imageWords}
 use Rattle.vm.specs.Guard.{GuardedEnd}
 use Rattle.guard.specs.Input.{Input, breakLimit}
 use Rattle.secret.specs.Widths.{reportLimit}
-use Rattle.secret.specs.Report.{headRecord, startRecords, breakRecord, eachRecord, traceBytes, noRecord}
+use Rattle.secret.specs.Report.{headOf, startRecords, breakRecord, eachRecord, traceBytes, noRecord}
 
 -- the record in slot j: columns of bytes (address and phase each in its own), numbers
 abbrev pub slotBytes : List ℕ → List ℕ → ℕ → List ℕ
@@ -33,22 +33,20 @@ pub record Reportable (m : Code) : Type 0 where
   pub touched : m .«touched_len» ≤ memoryWords
   pub texts : (i : ℕ) → padded textWidth (textOf (getD (viewOf m .trace) i noRecord .text)) ≡ getD (viewOf m .trace) i noRecord .text .bytes
 
--- what the code that writes a report asks of its parts: buffer, marks, breakpoints; the marks of registers and of memory, the total of hidden words and the
+-- what the code that writes a report asks of its parts: clearance, buffer, marks, breakpoints; the marks of registers and of memory, the total of hidden words and the
 -- machine, as the run left them
-pub record Writable (out k b r q : List ℕ) (n : ℕ) (m : Code) : Type 0 where
+pub record Writable (clearance : ℕ) (out k b r q : List ℕ) (n : ℕ) (m : Code) : Type 0 where
   pub room : reportLimit ≤ length out
   pub marks : length k ≡ memoryWords
   pub breaks : length b ≤ breakLimit
   pub registers : length r ≡ registerCount
   pub memory : length q ≡ memoryWords
-  pub total : n ≡ hiddenCount marked q
+  pub total : n ≡ hiddenCount (hiddenFrom clearance) q
   pub machine : Reportable m
 
--- the records of the input, kinds 01 to 03
+-- the records of the input, kinds 09, 02 and 03
 abbrev pub inputRecords : Input → List ℕ
-inputRecords i =
-    headRecord (length (i .image)) (i .budget) (length (i .breaks))
-    ++ (startRecords marked (imageWords (i .image)) (i .marks) ++ eachRecord breakRecord (i .breaks))
+inputRecords i = headOf i ++ (startRecords (hiddenFrom (i .clearance)) (imageWords (i .image)) (i .marks) ++ eachRecord breakRecord (i .breaks))
 
 -- how a run ended, of the parts that the code has: stop, machine, the marks of registers, of memory and of MDR
 abbrev pub endFrom : GuardedStop → Code → List ℕ → List ℕ → ℕ → GuardedEnd

@@ -5,3 +5,4 @@ pub mod Public
 pub mod Outcome
 pub mod Program
 pub mod Demand
+pub mod Marked

@@ -5,7 +5,6 @@ use mathlib.Core.List.{List}
 use lib.ListN.{length, take}
 use Rattle.encoding.specs.Bytes.{over}
 use Rattle.encoding.specs.Answer.{Told, Outcome, outcome, unlessRefused}
-use Rattle.marks.specs.Marks.{marked}
 use Rattle.guard.specs.Input.{Input}
 use Rattle.secret.specs.declared.Reported.{Reported}
 use Rattle.secret.specs.declared.Reported.the-variants.{Written, Refused}
@@ -26,7 +25,7 @@ abbrev pub delivered : List ℕ → List ℕ → Outcome Told
 delivered r out = answeredLength (length r) (over out 0 r)
 
 unfoldable pub reportOutcome : Input → List ℕ → Outcome Told
-reportOutcome i out = unlessRefused (reportRefusal i (length out)) out (delivered (reportBytes marked i) out)
+reportOutcome i out = unlessRefused (reportRefusal i (length out)) out (delivered (reportBytes i) out)
 
 -- the report of a call: the buffer's first bytes, as many as the returned length
 abbrev pub reportIn : Outcome Told → List ℕ

@@ -1,4 +1,5 @@
--- The report of a guarded run (01, section 6; 02, Change 6), as a list of bytes. `hid` says which marks hide a value.
+-- The report of a guarded run (01, section 6; 02, Changes 6 and 7), as a list of bytes. `hid` says which marks hide a value: those with an owner outside the
+-- reader's clearance (`reportOn`). A mark's own field has the whole owner byte, of a shown value too.
 -- Assumes nothing.
 use Prim.Native.Nat.{ℕ}
 use mathlib.Core.Bool.{Bool, cond}
@@ -14,6 +15,7 @@ use Rattle.control.specs.Codes.{faultBytes}
 use Rattle.trace.specs.declared.records.TraceRecord.{TraceRecord}
 use Rattle.vm.specs.Machine.{Machine}
 use Rattle.vm.specs.Calls.{imageWords}
+use Rattle.marks.specs.Owners.{hiddenFrom}
 use Rattle.marks.specs.Marks.{Marks, shown}
 use Rattle.marks.specs.Total.{hiddenCount}
 use Rattle.vm.specs.Guard.{GuardedEnd, guardedOf}
@@ -30,9 +32,13 @@ addressBytes = bigEndian addressWidth
 abbrev pub indexBytes : ℕ → List ℕ
 indexBytes = bigEndian indexWidth
 
--- kind 01, the head: image length, budget, breakpoint count
-unfoldable pub headRecord : ℕ → ℕ → ℕ → List ℕ
-headRecord len budget count = 1 ∷ (bigEndian countWidth len ++ (bigEndian numberWidth budget ++ bigEndian countWidth count))
+-- kind 09, the head: image length, budget, breakpoint count, clearance
+unfoldable pub headRecord : ℕ → ℕ → ℕ → ℕ → List ℕ
+headRecord len budget count clearance = 9 ∷ (bigEndian countWidth len ++ (bigEndian numberWidth budget ++ (bigEndian countWidth count ++ (clearance ∷ []))))
+
+-- of an input
+abbrev pub headOf : Input → List ℕ
+headOf i = headRecord (length (i .image)) (i .budget) (length (i .breaks)) (i .clearance)
 
 module _ (hid : ℕ → Bool) where
   -- the disassembly in 32 bytes, zero padded, all zero if hidden: mark, word
@@ -93,7 +99,7 @@ countBytes k =
 unfoldable pub controlBytes : ℕ → ℕ → ℕ → ℕ → ℕ → List ℕ
 controlBytes pc ir mar mark mdr = pc ∷ (bigEndian valueWidth ir ++ (addressBytes mar ++ (mark ∷ bigEndian valueWidth mdr)))
 
--- kind 0A, how many words are hidden
+-- kind 0A, how many words are hidden from the reader
 unfoldable pub hiddenRecord : ℕ → List ℕ
 hiddenRecord n = 0x0A ∷ bigEndian countWidth n
 
@@ -116,12 +122,11 @@ module _ (hid : ℕ → Bool) where
   unfoldable pub endBytes : GuardedEnd → List ℕ
   endBytes e = endRecords (stopNumber (e .stop)) (e .guarded .machine) (e .guarded .marks)
 
-  -- all the records in their order: the input, how its run ended
-  unfoldable pub reportOn : Input → GuardedEnd → List ℕ
-  reportOn i e =
-      headRecord (length (i .image)) (i .budget) (length (i .breaks))
-      ++ (startRecords hid (imageWords (i .image)) (i .marks)
-      ++ (eachRecord breakRecord (i .breaks) ++ endBytes e))
+-- all the records in their order: the input, how its run ended
+unfoldable pub reportOn : Input → GuardedEnd → List ℕ
+reportOn i e =
+    let hid = hiddenFrom (i .clearance) in
+    headOf i ++ (startRecords hid (imageWords (i .image)) (i .marks) ++ (eachRecord breakRecord (i .breaks) ++ endBytes hid e))
 
-  unfoldable pub reportBytes : Input → List ℕ
-  reportBytes i = reportOn i (guardedOf hid i)
+unfoldable pub reportBytes : Input → List ℕ
+reportBytes i = reportOn i (guardedOf i)

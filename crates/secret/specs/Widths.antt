@@ -1,4 +1,4 @@
--- The widths of a report's fields, the lengths of its records and of the whole, in bytes (01, section 6; 02, Change 6).
+-- The widths of a report's fields, the lengths of its records and of the whole, in bytes (01, section 6; 02, Changes 6 and 7).
 -- Assumes nothing.
 use Prim.Native.Nat.{ℕ, _+_, _*_}
 use Rattle.isa.specs.Sizes.{memoryWords, registerCount, textWidth}
@@ -28,6 +28,7 @@ placeWidth = 1
 abbrev pub indexWidth : ℕ
 indexWidth = 1
 
+-- the owners of a value, and a reader's clearance
 abbrev pub markWidth : ℕ
 markWidth = 1
 
@@ -42,9 +43,9 @@ stopWidth = 1
 
 -- ---- records, by kind
 
--- 01
+-- 09
 abbrev pub headLength : ℕ
-headLength = kindWidth + countWidth + numberWidth + countWidth
+headLength = kindWidth + countWidth + numberWidth + countWidth + markWidth
 
 -- what 02, 05 and 06 have in common, with an index of w bytes
 abbrev pub valueLength : ℕ → ℕ

@@ -3,23 +3,22 @@
 use Prim.Native.Nat.{ℕ, zero, suc, _≤_, _-_}
 use native.Mathlib.Omega.{arith}
 use mathlib.Core.Path.{_≡_, refl, ap, sym, _∙_}
-use mathlib.Core.Bool.{Bool, true, false, cond, _&&_}
+use mathlib.Core.Bool.{Bool, true, false, cond}
 use mathlib.Core.List.{List, [], _++_, append-nil}
 use borrow.Author.Tests.{ltb-false, eqb-true, ne-eqb}
 use lib.Dec.{eqb, ltb}
 use lib.ListN.{length, replicate, length-replicate}
 use lib.Seq.{take-all}
 use Rattle.isa.specs.Sizes.{memoryWords}
-use Rattle.isa.proofs.Truths.{both}
 use Rattle.isa.proofs.Texts.{zeros-at}
 use Rattle.trace.specs.Trace.{columnsLength}
 use Rattle.vm.specs.declared.machine.Machine.{Machine as Code}
 use Rattle.vm.specs.Forms.{Fit, Sizes}
 use Rattle.vm.specs.Calls.{partsOf, viewOf, isMachine, restOf, restarted, imageWords, imageSize}
-use Rattle.marks.specs.Marks.{marked}
+use Rattle.marks.specs.Owners.{hiddenFrom}
 use Rattle.marks.specs.Total.{hiddenCount, IsCount}
 use Rattle.vm.specs.Guard.{guardedStart, guardedRun, guardedOf, GuardedAnswer, guardedAnswerOf, servedAnswer, refusedRun, guardedAnswer}
-use Rattle.guard.specs.Input.{Input, zeroOne, breakLimit, budgetLimit, inputRefusal}
+use Rattle.guard.specs.Input.{Input, breakLimit, budgetLimit, guardRefusal, inputRefusal}
 use Rattle.vm.proofs.Starts.{size-few, new-ok}
 use Rattle.vm.proofs.Fits.{fit}
 
@@ -54,24 +53,24 @@ words-are l e =
     (λ k. take-all memoryWords l (omega arith) k ++ replicate (z k) 0) ∙ append-nil l
 
 pub served-input : (i : Input) → inputRefusal i ≡ 0 → (length (i .image) ≤ memoryWords) × (length (i .marks) ≡ memoryWords) × (i .budget ≤ budgetLimit)
-unfolding inputRefusal
-served-input i e = go (ltb memoryWords (length (i .image))) (eqb (length (i .marks)) memoryWords && zeroOne (i .marks)) (ltb breakLimit (length (i .breaks))) (ltb budgetLimit (i .budget)) refl refl refl e
+unfolding guardRefusal
+served-input i e = go (ltb memoryWords (length (i .image))) (eqb (length (i .marks)) memoryWords) (ltb breakLimit (length (i .breaks))) (ltb budgetLimit (i .budget)) refl refl refl e
   where
-    go : (a b c d : Bool) → ltb memoryWords (length (i .image)) ≡ a → eqb (length (i .marks)) memoryWords && zeroOne (i .marks) ≡ b → ltb budgetLimit (i .budget) ≡ d → _≡_ {A = ℕ} (cond a 1 (cond b (cond c 3 (cond d 4 0)) 2)) 0
+    go : (a b c d : Bool) → ltb memoryWords (length (i .image)) ≡ a → eqb (length (i .marks)) memoryWords ≡ b → ltb budgetLimit (i .budget) ≡ d → _≡_ {A = ℕ} (cond a 1 (cond b (cond c 3 (cond d 4 0)) 2)) 0
         → (length (i .image) ≤ memoryWords) × (length (i .marks) ≡ memoryWords) × (i .budget ≤ budgetLimit)
     go true b c d p q r z = absurd (omega (arith, z))
     go false false c d p q r z = absurd (omega (arith, z))
     go false true true d p q r z = absurd (omega (arith, z))
     go false true false true p q r z = absurd (omega (arith, z))
     go false true false false p q r z =
-        (omega (arith, ltb-false memoryWords (length (i .image)) p), eqb-true (length (i .marks)) memoryWords (both (eqb (length (i .marks)) memoryWords) (zeroOne (i .marks)) q .0), ltb-false budgetLimit (i .budget) r)
+        (omega (arith, ltb-false memoryWords (length (i .image)) p), eqb-true (length (i .marks)) memoryWords q, ltb-false budgetLimit (i .budget) r)
 
 -- its marks in the code's array, and their count
-pub load-counts : (i : Input) → inputRefusal i ≡ 0 → {marks : List ℕ} {n : ℕ} → marks ≡ imageWords (i .marks) → n ≡ hiddenCount marked (i .marks) → IsCount marks n
+pub load-counts : (i : Input) → inputRefusal i ≡ 0 → {marks : List ℕ} {n : ℕ} → marks ≡ imageWords (i .marks) → n ≡ hiddenCount (hiddenFrom (i .clearance)) (i .marks) → IsCount (hiddenFrom (i .clearance)) marks n
 load-counts i z e c =
     let full = served-input i z .1 in
     let all = e ∙ words-are (i .marks) full in
-    record { full = ap length all ∙ full; count = c ∙ ap (hiddenCount marked) (sym all) }
+    record { full = ap length all ∙ full; count = c ∙ ap (hiddenCount (hiddenFrom (i .clearance))) (sym all) }
 
 -- ---- by what the code finds: the words, how many count, the machine, the marks
 
@@ -93,11 +92,11 @@ module _ (i : Input) {new : Code} {words : List ℕ} {size : ℕ} (machine : new
     unfolding restarted
     load-rest = ap restOf machine ∙ (λ k. record { image = loaded k; length = (counted ∙ size-is (length (i .image)) (has .0)) k; history = 0 })
 
-    pub load-run : {marks : List ℕ} → marks ≡ imageWords (i .marks) → guardedRun marked (i .breaks) 0 (i .budget) (record { machine = viewOf new; marks = record { memory = marks; registers = replicate 16 0; mdr = 0 } }) ≡ guardedOf marked i
+    pub load-run : {marks : List ℕ} → marks ≡ imageWords (i .marks) → guardedRun (hiddenFrom (i .clearance)) (i .breaks) 0 (i .budget) (record { machine = viewOf new; marks = record { memory = marks; registers = replicate 16 0; mdr = 0 } }) ≡ guardedOf i
     unfolding guardedOf guardedStart
     load-run e =
         let m = machine ∙ (λ k. restarted (loaded k) ((counted ∙ size-is (length (i .image)) (has .0)) k) 0) in
-        λ k. guardedRun marked (i .breaks) 0 (i .budget) (record { machine = viewOf (m k); marks = record { memory = (e ∙ words-are (i .marks) (has .1)) k; registers = replicate 16 0; mdr = 0 } })
+        λ k. guardedRun (hiddenFrom (i .clearance)) (i .breaks) 0 (i .budget) (record { machine = viewOf (m k); marks = record { memory = (e ∙ words-are (i .marks) (has .1)) k; registers = replicate 16 0; mdr = 0 } })
 
 -- ---- what the call answers
 

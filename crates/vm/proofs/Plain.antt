@@ -27,6 +27,7 @@ use Rattle.vm.specs.Run.{verdict, closed, runNumber, RunEnd, run}
 use Rattle.guard.specs.Stops.{Verdict, go, stop, haltStop, reached, verdictIf, stopNumber, runCode, refusalIn}
 use Rattle.vm.specs.Calls.{restarted}
 use Rattle.vm.specs.Guard.{Guarded, GuardedEnd, nextWord, guardedStep, guardedSteps, guardedEnd, guard, guardedRun, guardedStart, guardedOf}
+use Rattle.marks.specs.Owners.{hiddenFrom}
 use Rattle.guard.specs.Input.{Input, inputRefusal}
 use Rattle.guard.specs.Stops.{haltedStop, guardIf, hiddenJump}
 use Rattle.vm.proofs.Runs.{run-stops, run-goes}
@@ -250,16 +251,16 @@ start-uncounted image marks n h j l =
 
 -- ---- of a served input
 
-module _ (hid : ℕ → Bool) (i : Input) where
+module _ (i : Input) where
   abbrev plain : Machine
   plain = guardedStart (i .image) (i .marks) .machine
 
   -- at the stops for a hidden value: the plain machine after as many instructions
-  pub hidden-end : let e = guardedOf hid i in hides (e .stop) ≡ true → e .guarded .machine ≡ instructions (e .executed) plain
+  pub hidden-end : let e = guardedOf i in hides (e .stop) ≡ true → e .guarded .machine ≡ instructions (e .executed) plain
   unfolding guardedOf
-  hidden-end h = plain-hidden hid (i .breaks) (i .budget) (guardedStart (i .image) (i .marks)) h
+  hidden-end h = plain-hidden (hiddenFrom (i .clearance)) (i .breaks) (i .budget) (guardedStart (i .image) (i .marks)) h
 
   -- at every other: the stop that `run` has, and the machine that it leaves
-  pub open-end : inputRefusal i ≡ 0 → let e = guardedOf hid i in hides (e .stop) ≡ false → Same e (run (i .breaks) 0 (i .budget) plain)
+  pub open-end : inputRefusal i ≡ 0 → let e = guardedOf i in hides (e .stop) ≡ false → Same e (run (i .breaks) 0 (i .budget) plain)
   unfolding guardedOf
-  open-end z h = plain-run hid (i .breaks) 0 (i .budget) (guardedStart (i .image) (i .marks)) (start-uncounted (i .image) (i .marks) (i .budget) (served-input i z .2)) h
+  open-end z h = plain-run (hiddenFrom (i .clearance)) (i .breaks) 0 (i .budget) (guardedStart (i .image) (i .marks)) (start-uncounted (i .image) (i .marks) (i .budget) (served-input i z .2)) h

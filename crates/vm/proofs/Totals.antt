@@ -8,7 +8,8 @@ use mathlib.Core.List.{List}
 use lib.ListN.{length}
 use Rattle.isa.specs.Sizes.{memoryWords}
 use Rattle.isa.specs.Word.{decodeWord}
-use Rattle.marks.specs.Marks.{Marks, marked, marksOf, instructionMarks}
+use Rattle.marks.specs.Owners.{hiddenFrom}
+use Rattle.marks.specs.Marks.{Marks, marksOf, instructionMarks}
 use Rattle.marks.specs.Total.{hiddenCount, IsCount}
 use Rattle.marks.specs.Forms.{totalBy}
 use Rattle.marks.proofs.Totals.{instruction-long, instruction-total, total-counts}
@@ -48,22 +49,26 @@ module _ (hid : ℕ → Bool) where
     pub run-carried : (n : ℕ) → countedSteps hid n (counted hid first) ≡ counted hid (guardedSteps n first)
     run-carried n = carried n first start-full
 
-    -- at its stop
-    pub stop-carried : let e = guardedOf hid i in countedSteps hid (e .executed) (counted hid first) .total ≡ hiddenCount hid (e .guarded .marks .memory)
-    unfolding guardedOf
-    stop-carried =
-        let e = guardedRun hid (i .breaks) 0 (i .budget) first in
-        ap (λ (c : Counted). c .total) (run-carried (e .executed)) ∙ ap (λ (k : Marks). hiddenCount hid (k .memory)) (sym (end-marks (i .breaks) (i .budget) first))
+module _ (i : Input) (served : inputRefusal i ≡ 0) where
+  abbrev hides : ℕ → Bool
+  hides = hiddenFrom (i .clearance)
 
--- what `guarded_run` answers is the total that was carried
-pub answer-carried : (i : Input) → inputRefusal i ≡ 0
-    → guardedAnswer i .hiddenTotal ≡ countedSteps marked (guardedAnswer i .executed) (counted marked (guardedStart (i .image) (i .marks))) .total
-answer-carried i served = rw (answer-served i served) (sym (stop-carried marked i served))
+  -- at its stop, for its reader
+  pub stop-carried : let e = guardedOf i in countedSteps hides (e .executed) (counted hides (first hides i served)) .total ≡ hiddenCount hides (e .guarded .marks .memory)
+  unfolding guardedOf
+  stop-carried =
+      let f = first hides i served in
+      let e = guardedRun hides (i .breaks) 0 (i .budget) f in
+      ap (λ (c : Counted). c .total) (run-carried hides i served (e .executed)) ∙ ap (λ (k : Marks). hiddenCount hides (k .memory)) (sym (end-marks hides (i .breaks) (i .budget) f))
+
+  -- what `guarded_run` answers is the total that was carried
+  pub answer-carried : guardedAnswer i .hiddenTotal ≡ countedSteps hides (guardedAnswer i .executed) (counted hides (guardedStart (i .image) (i .marks))) .total
+  answer-carried = rw (answer-served i served) (sym stop-carried)
 
 -- a turn of the code's loop: the total and the marks that its two calls give
-pub turn-counts : (w : ℕ) (m r : List ℕ) (t : ℕ) {s : ℕ} {k : Marks} → IsCount m t → s ≡ totalBy (decodeWord w) w m r t
-    → k ≡ instructionMarks w (marksOf m r 0) → IsCount (k .memory) s
+pub turn-counts : (hid : ℕ → Bool) (w : ℕ) (m r : List ℕ) (t : ℕ) {s : ℕ} {k : Marks} → IsCount hid m t → s ≡ totalBy hid (decodeWord w) w m r t
+    → k ≡ instructionMarks w (marksOf m r 0) → IsCount hid (k .memory) s
 unfolding instructionMarks
-turn-counts w m r t c e f =
-    let x = total-counts (decodeWord w) w (marksOf m r 0) t c in
-    record { full = ap (λ (k : Marks). length (k .memory)) f ∙ x .full; count = e ∙ x .count ∙ ap (λ (k : Marks). hiddenCount marked (k .memory)) (sym f) }
+turn-counts hid w m r t c e f =
+    let x = total-counts hid (decodeWord w) w (marksOf m r 0) t c in
+    record { full = ap (λ (k : Marks). length (k .memory)) f ∙ x .full; count = e ∙ x .count ∙ ap (λ (k : Marks). hiddenCount hid (k .memory)) (sym f) }

@@ -3,9 +3,9 @@
 -- Assumes nothing.
 use Prim.Native.Nat.{ℕ, _+_, _-_, _≤_}
 use mathlib.Core.Path.{_≡_}
+use mathlib.Core.Bool.{Bool}
 use mathlib.Core.List.{List}
 use Rattle.control.specs.Control.{withPc, withControl, withAlu}
-use Rattle.marks.specs.Marks.{marked}
 use Rattle.marks.specs.Total.{IsCount}
 use Rattle.direct.specs.declared.light.Lane.{Lane}
 use Rattle.vm.specs.declared.parts.Core.{Core}
@@ -34,14 +34,14 @@ coreWith c s = record {
   «trace_len» = c .«trace_len»;
 }
 
--- what is left of a run, and of a guarded run, is the whole, whatever the trace and MDR's mark: breakpoints, instructions begun, budget, the parts,
+-- what is left of a run, and of a guarded run, is the whole, whatever the trace and MDR's mark: which marks hide, breakpoints, instructions begun, budget, the parts,
 -- marks and total at first, and those after j instructions
-pub record Ahead (b : List ℕ) (k L : ℕ) (from : Core) (m r t x y : List ℕ) (n j : ℕ) (core : Core) (m' r' t' x' y' : List ℕ) (n' : ℕ) : Type 0 where
+pub record Ahead (hid : ℕ → Bool) (b : List ℕ) (k L : ℕ) (from : Core) (m r t x y : List ℕ) (n j : ℕ) (core : Core) (m' r' t' x' y' : List ℕ) (n' : ℕ) : Type 0 where
   pub runs : (c i l : List ℕ) → Fit (parts from m r t c i l)
       → run b k (L - k) (view (parts from m r t c i l)) ≡ run b (k + j) (L - (k + j)) (view (parts core m' r' t' c i l))
   pub guards : (c i l : List ℕ) (d : ℕ) → Fit (parts from m r t c i l)
-      → guardedRun marked b k (L - k) (guardedOn (parts from m r t c i l) x y d)
-      ≡ guardedRun marked b (k + j) (L - (k + j)) (guardedOn (parts core m' r' t' c i l) x' y' d)
-  pub totals : IsCount x n → IsCount x' n'
+      → guardedRun hid b k (L - k) (guardedOn (parts from m r t c i l) x y d)
+      ≡ guardedRun hid b (k + j) (L - (k + j)) (guardedOn (parts core m' r' t' c i l) x' y' d)
+  pub totals : IsCount hid x n → IsCount hid x' n'
   pub fits : (c i l : List ℕ) → Fit (parts from m r t c i l) → Fit (parts core m' r' t' c i l)
   pub within : k + j ≤ L

@@ -1,4 +1,4 @@
--- Worked examples (01, section 9, 1* to 13*; 02, Changes 2 and 6). Each row has the number of the example or of the change, a machine and the number of ticks that
+-- Worked examples (01, section 9, 1* to 13*; 02, Changes 2, 6 and 7). Each row has the number of the example or of the change, a machine and the number of ticks that
 -- it makes, or the input of a guarded run, and what is then seen. One theorem says that the definitions give each row.
 -- Assumes nothing.
 use Prim.Native.Nat.{ℕ, zero, suc, _-_}
@@ -12,7 +12,7 @@ use Rattle.isa.specs.declared.text.Text.{Text}
 use Rattle.isa.specs.Text.{ascii, text}
 use Rattle.isa.specs.Opcode.{digits, decodeNibble}
 use Rattle.isa.specs.Format.{fill}
-use Rattle.plan.specs.Plan.{fetchText, loadText, executeText, tickTemplate, tickText}
+use Rattle.plan.specs.Plan.{fetchText, loadText, storeText, executeText, tickTemplate, tickText}
 use Rattle.control.specs.declared.control.Fault.{Fault}
 use Rattle.control.specs.declared.control.Fault.the-variants.{Healthy, UnknownInstruction}
 use Rattle.control.specs.declared.control.State.{State}
@@ -20,7 +20,8 @@ use Rattle.control.specs.Control.{withPc, withControl}
 use Rattle.control.specs.Count.{countTick}
 use Rattle.tick.specs.Tick.{decodeTick, right16, left16, executeTick, tickOf}
 use Rattle.encoding.specs.Bytes.{member}
-use Rattle.marks.specs.Marks.{marked, instructionMarks}
+use Rattle.marks.specs.Owners.{hiddenFrom}
+use Rattle.marks.specs.Marks.{instructionMarks}
 use Rattle.marks.specs.Total.{hiddenCount}
 use Rattle.guard.specs.Stops.{stopNumber}
 use Rattle.guard.specs.Input.{Input}
@@ -91,18 +92,19 @@ seenOf s k t m = record {
   fault = m .state .fault;
 }
 
--- now, and after each of n instructions
-unfoldable pub totalsIn : ℕ → Counted → List ℕ
-totalsIn zero c = c .total ∷ []
-totalsIn (suc n) c = c .total ∷ totalsIn n (countedStep marked c)
+-- which marks hide; now, and after each of n instructions
+unfoldable pub totalsIn : (ℕ → Bool) → ℕ → Counted → List ℕ
+totalsIn hid zero c = c .total ∷ []
+totalsIn hid (suc n) c = c .total ∷ totalsIn hid n (countedStep hid c)
 
 unfoldable pub seen : Given → Seen
 seen (ticks image words p n) = seenOf [] [] [] (microSteps n (machineWith image words p))
 seen (guarded i) =
-    let e = guardedOf marked i in
+    let e = guardedOf i in
     let k = e .guarded .marks in
+    let hid = hiddenFrom (i .clearance) in
     seenOf (stopNumber (e .stop) ∷ []) (getD (k .registers) 1 0 ∷ getD (k .memory) 0x11 0 ∷ getD (k .memory) 0x12 0 ∷ [])
-    (totalsIn (e .executed) (counted marked (guardedStart (i .image) (i .marks)))) (e .guarded .machine)
+    (totalsIn hid (e .executed) (counted hid (guardedStart (i .image) (i .marks)))) (e .guarded .machine)
 
 -- document 01's example, or document 02's change, of that number
 pub data Source : Type 0 where
@@ -135,13 +137,14 @@ row e image words p n x v q k h f = record {
   };
 }
 
--- a program, and in word 10, which is marked, a value
+-- a program, and in word 10 a value. That word is marked: it has owner byte 01, and the clearance is 00
 abbrev pub hiding : List ℕ → ℕ → Input
 hiding program value = record {
   image = program ++ (replicate (0x10 - length program) 0 ++ (value ∷ []));
   marks = replicate 0x10 0 ++ (1 ∷ replicate (memoryWords - 0x11) 0);
   budget = 9;
   breaks = [];
+  clearance = 0;
 }
 
 -- the source; the input of a guarded run; the stop, the marks of R1 and of words 11 and 12, the totals, text, R1, PC, instructions, ticks, reads, writes, halted, fault
@@ -167,7 +170,7 @@ guardedRow e i s g t x v q k n a b h f = record {
 
 -- 10*: a breakpoint before the first instruction
 abbrev pub breaking : Input
-breaking = record { image = 0xE000 ∷ []; marks = replicate memoryWords 0; budget = 1; breaks = 0 ∷ [] }
+breaking = record { image = 0xE000 ∷ []; marks = replicate memoryWords 0; budget = 1; breaks = 0 ∷ []; clearance = 0 }
 
 -- Change 2: R1 from word 10, the word w, a jump on R1, and HALT either way
 abbrev pub jumpingBehind : ℕ → Input
@@ -184,6 +187,29 @@ uncleared w x v = guardedRow (change 2) (jumpingBehind w) 5 (1 ∷ 0 ∷ 0 ∷ [
 -- Change 6: R1 from word 10, and stored at 11 and 12, and at 12 once more; then R1 open, and stored at 10 and 11
 abbrev pub storing : Input
 storing = hiding (0x3110 ∷ 0x4111 ∷ 0x4112 ∷ 0x4112 ∷ 0x1105 ∷ 0x4110 ∷ 0x4111 ∷ 0xE000 ∷ []) 0x1234
+
+-- Change 7: R1 from word 10 and R2 from word 13, with the owner bytes 05 and 06; their sum is stored at 11 and R2 at 12; then a jump on R1, and HALT: the
+-- clearance
+abbrev pub joining : ℕ → Input
+joining c = record {
+  image = (0x3110 ∷ 0x3213 ∷ 0x6112 ∷ 0x4111 ∷ 0x4212 ∷ 0xD106 ∷ 0xE000 ∷ []) ++ (replicate 9 0 ++ (0x1234 ∷ []));
+  marks = replicate 0x10 0 ++ (5 ∷ 0 ∷ 0 ∷ 6 ∷ replicate (memoryWords - 0x14) 0);
+  budget = 9;
+  breaks = [];
+  clearance = c;
+}
+
+-- it covers all three owners, which stay in the marks: the jump is asked, and not taken
+abbrev pub covered : ℕ → Row
+covered c = guardedRow (change 7) (joining c) 0 (7 ∷ 7 ∷ 6 ∷ []) (replicate 8 0) "PC + 1 -> PC" 0x1234 7 7 42 9 2 true Healthy
+
+-- it does not: stop 5 at the jump, with the totals
+abbrev pub uncovered : ℕ → List ℕ → Row
+uncovered c t = guardedRow (change 7) (joining c) 5 (7 ∷ 7 ∷ 6 ∷ []) t "MDR -> M[MAR]" 0x1234 5 5 33 7 2 false Healthy
+
+-- a HALT whose owner byte is 80
+abbrev pub owning : ℕ → Input
+owning c = record { image = 0x1105 ∷ 0xE000 ∷ []; marks = 0 ∷ 0x80 ∷ replicate (memoryWords - 2) 0; budget = 9; breaks = []; clearance = c }
 
 -- 2* has three rows; 9* has its jump untaken, and then taken
 unfoldable pub rows : List Row
@@ -213,8 +239,15 @@ rows =
     ∷ cleared 0x9110
     ∷ uncleared 0x910F "R1 << 0F -> R1" 0
     ∷ guardedRow (change 6) storing 0 (0 ∷ 0 ∷ 1 ∷ []) (1 ∷ 1 ∷ 2 ∷ 3 ∷ 3 ∷ 3 ∷ 2 ∷ 1 ∷ 1 ∷ []) "PC + 1 -> PC" 5 8 8 51 9 5 true Healthy
+    ∷ covered 7
+    ∷ covered 0xFF
+    ∷ uncovered 6 (1 ∷ 1 ∷ 1 ∷ 1 ∷ 2 ∷ 2 ∷ [])
+    ∷ uncovered 5 (1 ∷ 1 ∷ 1 ∷ 1 ∷ 2 ∷ 3 ∷ [])
+    ∷ uncovered 0 (2 ∷ 2 ∷ 2 ∷ 2 ∷ 3 ∷ 4 ∷ [])
+    ∷ guardedRow (change 7) (owning 0x80) 0 (0 ∷ 0 ∷ 0 ∷ []) (replicate 3 0) "PC + 1 -> PC" 5 2 2 9 2 0 true Healthy
+    ∷ guardedRow (change 7) (owning 0x7F) 4 (0 ∷ 0 ∷ 0 ∷ []) (replicate 2 1) "05 -> R1" 5 1 1 5 1 0 false Healthy
     ∷ []
 
 pub rows-hold : map (λ (r : Row). seen (r .given)) rows ≡ map (λ (r : Row). r .answer) rows
-unfolding rows seen totalsIn hiddenCount microSteps machineWith restarted imageWords liveTrace slots pushed microStep nextText countTick tickOf decodeTick executeTick right16 left16 tickText tickTemplate executeText fetchText decodeNibble digits fill guardedOf guardedRun guardedStart stepInstruction steps ticked instructionMarks noted member loadText
+unfolding rows seen totalsIn hiddenCount microSteps machineWith restarted imageWords liveTrace slots pushed microStep nextText countTick tickOf decodeTick executeTick right16 left16 tickText tickTemplate executeText fetchText decodeNibble digits fill guardedOf guardedRun guardedStart stepInstruction steps ticked instructionMarks noted member loadText storeText
 rows-hold = refl

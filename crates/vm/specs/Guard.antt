@@ -1,4 +1,5 @@
--- The guarded run (01, section 5): `run` of a new machine, with two tests after the budget's. `hid` says which marks hide a value.
+-- The guarded run (01, section 5; 02, Change 7): `run` of a new machine, with two tests after the budget's. `hid` says which marks hide a value: those with
+-- an owner outside the reader's clearance (`guardedOf`).
 -- Assumes nothing.
 use Prim.Native.Nat.{ℕ, zero, suc, _+_}
 use mathlib.Core.Bool.{Bool, cond}
@@ -8,7 +9,8 @@ use lib.ListN.{length, getD, replicate}
 use Rattle.isa.specs.Sizes.{memoryWords, registerCount}
 use Rattle.guard.specs.declared.stops.GuardedStop.{GuardedStop}
 use Rattle.guard.specs.declared.stops.GuardedStop.the-variants.{Halted, Budget}
-use Rattle.marks.specs.Marks.{Marks, marked, marksOf, instructionMarks}
+use Rattle.marks.specs.Owners.{hiddenFrom}
+use Rattle.marks.specs.Marks.{Marks, marksOf, instructionMarks}
 use Rattle.marks.specs.Total.{hiddenCount}
 use Rattle.guard.specs.Stops.{Verdict, after, reached, hiddenJump, guardIf, stopNumber}
 use Rattle.guard.specs.Input.{Input, inputRefusal}
@@ -58,20 +60,21 @@ module _ (hid : ℕ → Bool) where
   guardedRun breaks k zero g = after (guard breaks k zero g) (guardedEnd k g) (λ u. guardedEnd k g Budget)
   guardedRun breaks k (suc n) g = after (guard breaks k (suc n) g) (guardedEnd k g) (λ u. guardedRun breaks (k + 1) n (guardedStep g))
 
--- the image loaded on a new machine; registers and MDR open
+-- the image loaded on a new machine; registers and MDR have no owner
 unfoldable pub guardedStart : List ℕ → List ℕ → Guarded
 guardedStart image marks = record {
   machine = viewOf (restarted (imageWords image) (length image) 0);
   marks = record { memory = marks; registers = replicate registerCount 0; mdr = 0 };
 }
 
-unfoldable pub guardedOf : (ℕ → Bool) → Input → GuardedEnd
-guardedOf hid i = guardedRun hid (i .breaks) 0 (i .budget) (guardedStart (i .image) (i .marks))
+-- with the marks and the clearance handed in
+unfoldable pub guardedOf : Input → GuardedEnd
+guardedOf i = guardedRun (hiddenFrom (i .clearance)) (i .breaks) 0 (i .budget) (guardedStart (i .image) (i .marks))
 
--- ---- what the call answers (01, section 1 and last paragraph; 02, Change 6)
+-- ---- what the call answers (01, section 1 and last paragraph; 02, Changes 6 and 7)
 
--- the number of the refusal, 0 where there is none; the stop by its number; the instructions begun; the machine with its marks; how many words are hidden;
--- what no tick reads or writes
+-- the number of the refusal, 0 where there is none; the stop by its number; the instructions begun; the machine with its marks; how many words are hidden
+-- from the reader; what no tick reads or writes
 pub record GuardedAnswer : Type 0 where
   pub refused : ℕ
   pub stop : ℕ
@@ -94,17 +97,17 @@ guardedAnswerOf r = record {
 -- a served run: the total is the full count of the marks at the stop
 abbrev pub servedAnswer : Input → GuardedAnswer
 servedAnswer i =
-    let e = guardedOf marked i in
+    let e = guardedOf i in
     record {
       refused = 0;
       stop = stopNumber (e .stop);
       executed = e .executed;
       guarded = e .guarded;
-      hiddenTotal = hiddenCount marked (e .guarded .marks .memory);
+      hiddenTotal = hiddenCount (hiddenFrom (i .clearance)) (e .guarded .marks .memory);
       rest = record { image = imageWords (i .image); length = length (i .image); history = 0 };
     }
 
--- a refused one: an empty machine, no marks, stop 0 and nothing begun, whatever was handed in
+-- a refused one: an empty machine, no owners, stop 0 and nothing begun, whatever was handed in
 unfoldable pub refusedRun : ℕ → GuardedRun
 refusedRun n = record {
   machine = restarted (imageWords []) 0 0;

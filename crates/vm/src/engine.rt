@@ -3,6 +3,7 @@
 ghost use mathlib.Core.Path.{_≡_};
 ghost use mathlib.Core.Bool.{false};
 ghost use Prim.Native.Nat.{_≤_};
+ghost use Rattle.marks.specs.Owners.{hiddenFrom};
 ghost use Rattle.trace.specs.Touched.{TouchFit};
 ghost use Rattle.vm.specs.Forms.{Fit, Stepping, given, came, left};
 ghost use Rattle.vm.specs.Ahead.{coreWith, Ahead};
@@ -154,9 +155,10 @@ pub struct Forwarded {
     pub made: Begun,
 }
 
-// What a run makes without records once its first instruction is made: none where that halted the machine. Marks that
-// hide nothing are those of a run without any.
+// What a run makes without records once its first instruction is made: none where that halted the machine. A run
+// without marks hands in marks of 0, for a reader from whom nothing is hidden.
 pub(crate) fn forward_parts(
+    clearance: u8,
     from: Core,
     begun: Begun,
     limit: Begun,
@@ -169,7 +171,7 @@ pub(crate) fn forward_parts(
     register_marks: &mut [u8; REGISTER_COUNT],
 ) -> Forwarded
     requires { ⌜ (from .state .control .tick ≡ 0) × TouchFit (from .«touched_len») (now touched) × (begun .0 ≤ limit .0) ⌝ }
-    ensures { λ r. ⌜ Ahead (now (breakpoints .entry)) (begun .0) (limit .0)
+    ensures { λ r. ⌜ Ahead (hiddenFrom clearance) (now (breakpoints .entry)) (begun .0) (limit .0)
         from (now (memory .entry)) (now (registers .entry)) (now (touched .entry)) (now (marks .entry)) (now («register_marks» .entry)) «hidden_total»
         (r .made .0) (r .core) (now (memory .exit)) (now (registers .exit)) (now (touched .exit))
         (now (marks .exit)) (now («register_marks» .exit)) (r .«hidden_total») ⌝ }
@@ -200,6 +202,7 @@ pub(crate) fn forward_parts(
     };
     let more = limit.0 - begun.0;
     let m = light_forward(
+        clearance,
         lane,
         Begun(more),
         breakpoints,

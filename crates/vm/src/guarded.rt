@@ -1,11 +1,11 @@
 // The guarded run: a run of a new machine that stops before it would show what is hidden. The plain
 // machine does not see the marks; they move beside it, once for each instruction, and with them the total of hidden
-// words, which is counted once.
+// words, which is counted once. Hidden is what the reader's clearance does not cover.
 ghost use mathlib.Core.Path.{_≡_};
 ghost use mathlib.Core.Bool.{true};
-ghost use Rattle.marks.specs.Marks.{marked};
+ghost use Rattle.marks.specs.Owners.{hiddenFrom};
 ghost use Rattle.marks.specs.Total.{IsCount};
-ghost use Rattle.guard.specs.Input.{inputFrom, inputRefusal};
+ghost use Rattle.guard.specs.Input.{inputFrom, guardRefusal};
 ghost use Rattle.vm.specs.Guard.{guardedRun};
 ghost use Rattle.vm.specs.Forms.{Fit, given, came, left, guardedOn, endOn};
 ghost use Rattle.vm.specs.Guard.{guardedAnswerOf, servedAnswer, refusedRun, guardedAnswer};
@@ -42,8 +42,10 @@ pub struct GuardedCore {
     pub mdr_mark: u8,
 }
 
-// The run of a machine whose MDR is open: as `run_parts`, with marks and the total of those that hide a word.
+// The run of a machine whose MDR is open: as `run_parts`, with marks and the total of those that hide a word from the
+// reader.
 fn guarded_parts(
+    clearance: u8,
     from: Core,
     budget: Begun,
     hidden_total: u16,
@@ -57,13 +59,15 @@ fn guarded_parts(
     numbers: &mut [u64; TRACE_LIMIT],
     lengths: &mut [u8; TRACE_LIMIT],
 ) -> GuardedCore
-    requires { ⌜ Fit (given from memory registers touched columns numbers lengths) × IsCount (now marks) «hidden_total» ⌝ }
+    requires { ⌜ Fit (given from memory registers touched columns numbers lengths)
+        × IsCount (hiddenFrom clearance) (now marks) «hidden_total» ⌝ }
     ensures { λ r. ⌜ (
         let was = came from memory registers touched columns numbers lengths in
         let is = left (r .core) memory registers touched columns numbers lengths in
         (endOn r (guardedOn is (now (marks .exit)) (now («register_marks» .exit)) (r .«mdr_mark»))
-        ≡ guardedRun marked (now (breakpoints .entry)) 0 (budget .0) (guardedOn was (now (marks .entry)) (now («register_marks» .entry)) 0))
-        × Fit is × IsCount (now (marks .exit)) (r .«hidden_total»)) ⌝ }
+        ≡ guardedRun (hiddenFrom clearance) (now (breakpoints .entry)) 0 (budget .0)
+        (guardedOn was (now (marks .entry)) (now («register_marks» .entry)) 0))
+        × Fit is × IsCount (hiddenFrom clearance) (now (marks .exit)) (r .«hidden_total»)) ⌝ }
 {
     let mut s = from;
     let limit = budget.0;
@@ -76,6 +80,7 @@ fn guarded_parts(
         let word = memory[pc];
         let mark = marks[pc];
         let verdict = judge(
+            clearance,
             state,
             breakpoints,
             Begun(begun),
@@ -94,7 +99,7 @@ fn guarded_parts(
                 mdr_mark: mdr,
             };
         }
-        let sum = total_instruction(word, total, marks, register_marks);
+        let sum = total_instruction(clearance, word, total, marks, register_marks);
         let opened = mark_instruction(word, marks, register_marks);
         let t = next_parts(
             true,
@@ -109,6 +114,7 @@ fn guarded_parts(
         let next = t.core;
         begun += 1;
         let f = forward_parts(
+            clearance,
             next,
             Begun(begun),
             Begun(limit),
@@ -129,7 +135,7 @@ fn guarded_parts(
 }
 
 // `refused` is 0, or the number of the refusal, beside which the rest is a fixed answer. `hidden_total` words are hidden
-// at the stop.
+// from the reader at the stop.
 pub struct GuardedRun {
     pub machine: Machine,
     pub marks: Marks,
@@ -160,10 +166,17 @@ fn refused_run(refused: u8) -> GuardedRun
 }
 
 // The run of an input that is not refused.
-fn accepted_run(image: &[u16], marks: &[u8], budget: Begun, breakpoints: &[u8]) -> GuardedRun
-    requires { ⌜ inputRefusal (inputFrom (now image) (now marks) (budget .0) (now breakpoints)) ≡ 0 ⌝ }
+fn accepted_run(
+    image: &[u16],
+    marks: &[u8],
+    budget: Begun,
+    breakpoints: &[u8],
+    clearance: u8,
+) -> GuardedRun
+    requires { ⌜ guardRefusal (now image) (now marks) (budget .0) (now breakpoints) ≡ 0 ⌝ }
     ensures { λ r. ⌜ (
-        (guardedAnswerOf r ≡ servedAnswer (inputFrom (now (image .entry)) (now (marks .entry)) (budget .0) (now (breakpoints .entry))))
+        (guardedAnswerOf r
+        ≡ servedAnswer (inputFrom (now (image .entry)) (now (marks .entry)) (budget .0) (now (breakpoints .entry)) clearance))
         × (isMachine (r .machine) ≡ true)) ⌝ }
 {
     let words = image_words(image);
@@ -186,8 +199,9 @@ fn accepted_run(image: &[u16], marks: &[u8], budget: Begun, breakpoints: &[u8]) 
     let mut touched = new.touched;
     let mut word_marks = mark_words(marks);
     let mut register_marks = [0u8; REGISTER_COUNT];
-    let hidden_total = count_hidden(marks) as u16;
+    let hidden_total = count_hidden(clearance, marks) as u16;
     let r = guarded_parts(
+        clearance,
         core,
         budget,
         hidden_total,
@@ -238,10 +252,17 @@ fn accepted_run(image: &[u16], marks: &[u8], budget: Begun, breakpoints: &[u8]) 
     }
 }
 
-// Load an image on a new machine, and run it until a stop; `marks` are those of its memory.
-pub fn guarded_run(image: &[u16], marks: &[u8], budget: Begun, breakpoints: &[u8]) -> GuardedRun
+// Load an image on a new machine, and run it until a stop, for a reader with this clearance; `marks` are the owners of
+// the words of its memory.
+pub fn guarded_run(
+    image: &[u16],
+    marks: &[u8],
+    budget: Begun,
+    breakpoints: &[u8],
+    clearance: u8,
+) -> GuardedRun
     ensures answer { λ r. ⌜ guardedAnswerOf r
-        ≡ guardedAnswer (inputFrom (now (image .entry)) (now (marks .entry)) (budget .0) (now (breakpoints .entry))) ⌝ }
+        ≡ guardedAnswer (inputFrom (now (image .entry)) (now (marks .entry)) (budget .0) (now (breakpoints .entry)) clearance) ⌝ }
     ensures fixed { λ r. ⌜ ((r .refused ≡ 0 → ⊥) → r ≡ refusedRun (r .refused)) ⌝ }
     ensures machine { λ r. ⌜ isMachine (r .machine) ≡ true ⌝ }
 {
@@ -249,5 +270,5 @@ pub fn guarded_run(image: &[u16], marks: &[u8], budget: Begun, breakpoints: &[u8
     if refused != 0 {
         return refused_run(refused);
     }
-    accepted_run(image, marks, budget, breakpoints)
+    accepted_run(image, marks, budget, breakpoints, clearance)
 }

@@ -20,6 +20,7 @@ use guard::RunVerdict;
 use guard::run_verdict;
 use isa::MEMORY_WORDS;
 use isa::REGISTER_COUNT;
+use marks::EVERYONE;
 use trace::COLUMNS_LENGTH;
 use trace::TRACE_LIMIT;
 
@@ -112,6 +113,7 @@ pub(crate) fn run_parts(
         let next = t.core;
         begun += 1;
         let f = forward_parts(
+            EVERYONE,
             next,
             Begun(begun),
             Begun(limit),

@@ -1,5 +1,6 @@
-//! Document 02, Change 6: how many words are hidden, in the reports that the port wrote,
-//! held to the model's full count after as many instructions as the report says.
+//! Document 02, Changes 6 and 7: how many words are hidden from the reader, in the reports
+//! that the port wrote, held to the model's full count after as many instructions as the
+//! report says.
 
 use crate::tally::Tally;
 use oracle::report::totals::{due, Said};

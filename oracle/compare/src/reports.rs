@@ -13,7 +13,7 @@ const IN_PIECES: usize = 12;
 
 /// The records of a report: kind, name, and length with the kind's byte.
 const RECORDS: [(u8, &str, usize); 9] = [
-    (1, "the head", bytes::HEAD),
+    (9, "the head", bytes::HEAD),
     (2, "a starting word", bytes::STARTING_WORD),
     (3, "a breakpoint", bytes::BREAKPOINT),
     (4, "the trace", bytes::TRACE),
@@ -133,12 +133,13 @@ mod tests {
     fn the_records_stand_where_the_report_has_them() {
         let report = report(&example_14()).expect("it is served");
         assert_eq!(place(&report, 0), "the head (byte 0), its byte 0");
-        assert_eq!(place(&report, 13), "a starting word (byte 13), its byte 0");
-        assert_eq!(place(&report, 9_485), "the trace (byte 9485), its byte 0");
-        assert_eq!(place(&report, 11_061), "the end (byte 11017), its byte 44");
-        let hidden_words = "the hidden words (byte 11062), its byte 0";
-        assert_eq!(place(&report, 11_062), hidden_words);
-        assert_eq!(place(&report, 11_065), "past the end");
+        assert_eq!(place(&report, 13), "the head (byte 0), its byte 13");
+        assert_eq!(place(&report, 14), "a starting word (byte 14), its byte 0");
+        assert_eq!(place(&report, 9_486), "the trace (byte 9486), its byte 0");
+        assert_eq!(place(&report, 11_062), "the end (byte 11018), its byte 44");
+        let hidden_words = "the hidden words (byte 11063), its byte 0";
+        assert_eq!(place(&report, 11_063), hidden_words);
+        assert_eq!(place(&report, 11_066), "past the end");
         assert_eq!(place(&refused(6), 8), "a refusal");
     }
 }

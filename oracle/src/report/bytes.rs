@@ -1,20 +1,22 @@
 //! The report of a guarded run, as bytes: document 01, section 6, one function
-//! for each kind of record. The last of them is from document 02, Change 6.
+//! for each kind of record. The last of them is from document 02, Change 6, the head and
+//! the owner bytes in place of marks are from its Change 7.
 
 use crate::codes::put_fault;
 use crate::encoding::{put_count, put_number, put_text, put_word};
 use crate::report::guarded::{self, Input, Run};
+use crate::report::owners::hidden_from;
 use crate::sizes::{BREAKPOINTS, MEMORY_WORDS, REGISTERS, TEXT, TRACE_RECORDS};
 use crate::vm::{Phase, TraceRecord};
 use crate::words::disassembly::disassemble;
 
 /// The bytes of an address of memory, in kinds 02, 06 and 07 and of MAR.
 const ADDRESS: usize = 1;
-/// A value behind its mark.
+/// A value behind its owner byte.
 const VALUE: usize = 1 + 2;
 
 /// The bytes of a record of each kind, its kind among them.
-pub const HEAD: usize = 1 + 2 + 8 + 2;
+pub const HEAD: usize = 1 + 2 + 8 + 2 + 1;
 pub const STARTING_WORD: usize = 1 + ADDRESS + VALUE + TEXT;
 pub const BREAKPOINT: usize = 1 + 1;
 pub const TRACE: usize = 1 + 8 + 1 + 1 + TEXT;
@@ -54,36 +56,40 @@ pub fn bytes(input: &Input, run: &Run) -> Vec<u8> {
     for record in &run.machine.trace {
         put_trace(&mut out, record);
     }
-    put_values(&mut out, 5, &run.machine.registers, &run.marks.registers);
-    put_values(&mut out, 6, &run.machine.memory, &run.marks.memory);
+    let (machine, owners, clearance) = (&run.machine, &run.owners, input.clearance);
+    put_values(
+        &mut out,
+        5,
+        &machine.registers,
+        &owners.registers,
+        clearance,
+    );
+    put_values(&mut out, 6, &machine.memory, &owners.memory, clearance);
     put_touched(&mut out, &run.machine.touched);
-    put_end(&mut out, run);
-    put_hidden_words(&mut out, run);
+    put_end(&mut out, run, clearance);
+    put_hidden_words(&mut out, run, clearance);
     out
 }
 
-/// Kind 01.
+/// Kind 09.
 fn put_head(out: &mut Vec<u8>, input: &Input) {
-    out.push(1);
+    out.push(9);
     put_count(out, input.image.len());
     put_number(out, input.budget);
     put_count(out, input.breakpoints.len());
+    out.push(input.clearance);
 }
 
-/// Kind 02: the image's words, then zeros, with the marks that were handed in.
+/// Kind 02: the image's words, then zeros, with the owners that were handed in.
 fn put_starting_words(out: &mut Vec<u8>, input: &Input) {
     let words = input.image.iter().copied().chain(std::iter::repeat(0));
-    for (address, (mark, word)) in input.marks.iter().zip(words).enumerate() {
-        put_starting_word(out, address as u8, *mark == 1, word);
-    }
-}
-
-fn put_starting_word(out: &mut Vec<u8>, address: u8, mark: bool, word: u16) {
-    out.extend([2, address]);
-    put_value(out, word, mark);
-    match mark {
-        true => put_text(out, NO_TEXT),
-        false => put_text(out, &disassemble(word)),
+    for (address, (owners, word)) in input.owners.iter().zip(words).enumerate() {
+        out.extend([2, address as u8]);
+        put_value(out, word, *owners, input.clearance);
+        match hidden_from(*owners, input.clearance) {
+            true => put_text(out, NO_TEXT),
+            false => put_text(out, &disassemble(word)),
+        }
     }
 }
 
@@ -109,11 +115,11 @@ fn phase(phase: Phase) -> u8 {
     }
 }
 
-/// Kinds 05 and 06: each value behind its index and its mark.
-fn put_values(out: &mut Vec<u8>, kind: u8, values: &[u16], marks: &[bool]) {
-    for (index, (value, mark)) in values.iter().zip(marks).enumerate() {
+/// Kinds 05 and 06: each value behind its index and its owner byte.
+fn put_values(out: &mut Vec<u8>, kind: u8, values: &[u16], owners: &[u8], clearance: u8) {
+    for (index, (value, owners)) in values.iter().zip(owners).enumerate() {
         out.extend([kind, index as u8]);
-        put_value(out, *value, *mark);
+        put_value(out, *value, *owners, clearance);
     }
 }
 
@@ -123,12 +129,12 @@ fn put_touched(out: &mut Vec<u8>, touched: &[u8]) {
 }
 
 /// Kind 08.
-fn put_end(out: &mut Vec<u8>, run: &Run) {
+fn put_end(out: &mut Vec<u8>, run: &Run, clearance: u8) {
     let machine = &run.machine;
     out.extend([8, run.stop as u8, machine.pc]);
     put_word(out, machine.ir);
     out.push(machine.mar);
-    put_value(out, machine.mdr, run.marks.mdr);
+    put_value(out, machine.mdr, run.owners.mdr, clearance);
     put_number(out, machine.instructions);
     put_number(out, machine.micro_operations);
     put_number(out, machine.bus_reads);
@@ -136,15 +142,17 @@ fn put_end(out: &mut Vec<u8>, run: &Run) {
     put_fault(out, machine.fault);
 }
 
-/// Kind 0A: the words that are marked at the stop, all counted. Nothing that was
-/// kept along the way is used, since that is what the port does.
-fn put_hidden_words(out: &mut Vec<u8>, run: &Run) {
+/// Kind 0A: the words that are hidden from the reader at the stop, all counted. Nothing
+/// that was kept along the way is used, since that is what the port does.
+fn put_hidden_words(out: &mut Vec<u8>, run: &Run, clearance: u8) {
     out.push(0x0A);
-    put_count(out, run.marks.hidden_words());
+    put_count(out, run.owners.hidden_words(clearance));
 }
 
-/// A mark and the value behind it, which is written 0000 where it is marked.
-fn put_value(out: &mut Vec<u8>, value: u16, mark: bool) {
-    out.push(u8::from(mark));
-    put_word(out, if mark { 0 } else { value });
+/// The whole owner byte, and the value behind it, which is written 0000 where it is
+/// hidden from the reader.
+fn put_value(out: &mut Vec<u8>, value: u16, owners: u8, clearance: u8) {
+    out.push(owners);
+    let hidden = hidden_from(owners, clearance);
+    put_word(out, if hidden { 0 } else { value });
 }

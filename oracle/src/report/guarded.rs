@@ -1,18 +1,21 @@
-//! The guarded run of document 01, section 5: the tests' own model. The
-//! original makes every instruction; the marks, the stops and the refusals are
-//! made here, from the document's words.
+//! The guarded run of document 01, section 5, for one reader (document 02, Change 7):
+//! the tests' own model. The original makes every instruction; the owners, the stops and
+//! the refusals are made here, from the documents' words.
 
-use crate::report::marks::Marks;
+use crate::report::owners::{hidden_from, Owners};
 use crate::sizes::{BREAKPOINTS, LARGEST_BUDGET, MEMORY_WORDS};
 use crate::vm::{Machine, RunStop};
 
-/// What a guarded run is given. A mark is a byte, 1 for marked.
+/// What a guarded run is given.
 #[derive(Clone, Debug, PartialEq, Eq)]
 pub struct Input {
     pub image: Vec<u16>,
-    pub marks: Vec<u8>,
+    /// The owner byte of each address.
+    pub owners: Vec<u8>,
     pub budget: u64,
     pub breakpoints: Vec<u8>,
+    /// The owners whose values the reader may see, one bit each.
+    pub clearance: u8,
 }
 
 /// Why a guarded run ended; the numbers are the document's.
@@ -22,15 +25,15 @@ pub enum Stop {
     Breakpoint = 1,
     Fault = 2,
     Budget = 3,
-    MarkedWord = 4,
-    MarkedTest = 5,
+    HiddenWord = 4,
+    HiddenTest = 5,
 }
 
 /// What a guarded run comes to.
 #[derive(Clone, Debug)]
 pub struct Run {
     pub machine: Machine,
-    pub marks: Marks,
+    pub owners: Owners,
     pub stop: Stop,
     /// The instructions begun.
     pub executed: u64,
@@ -44,14 +47,17 @@ pub fn run(input: &Input) -> Result<Run, u8> {
     }
 }
 
-/// How many words are hidden at the start of the run and after each instruction that
-/// it begins, each time all of them counted; or the number of its refusal.
+/// How many words are hidden from the reader at the start of the run and after each
+/// instruction that it begins, each time all of them counted; or the number of its
+/// refusal.
 pub fn hidden_counts(input: &Input) -> Result<Vec<usize>, u8> {
     if let Some(number) = refusal(input) {
         return Err(number);
     }
     let mut counts = Vec::new();
-    guarded(input, |marks| counts.push(marks.hidden_words()));
+    guarded(input, |owners| {
+        counts.push(owners.hidden_words(input.clearance))
+    });
     Ok(counts)
 }
 
@@ -61,7 +67,7 @@ pub fn hidden_counts(input: &Input) -> Result<Vec<usize>, u8> {
 pub fn refusal(input: &Input) -> Option<u8> {
     let tests = [
         (1, is_long_image(input.image.len())),
-        (2, are_bad_marks(&input.marks)),
+        (2, is_other_list(&input.owners)),
         (3, are_many_breakpoints(input.breakpoints.len())),
         (4, is_large_budget(input.budget)),
     ];
@@ -73,9 +79,9 @@ pub fn is_long_image(words: usize) -> bool {
     words > MEMORY_WORDS
 }
 
-/// Refusal 2.
-pub fn are_bad_marks(marks: &[u8]) -> bool {
-    marks.len() != MEMORY_WORDS || marks.iter().any(|mark| *mark > 1)
+/// Refusal 2: only the length can be wrong, as every owner byte is lawful.
+pub fn is_other_list(owners: &[u8]) -> bool {
+    owners.len() != MEMORY_WORDS
 }
 
 /// Refusal 3.
@@ -90,21 +96,21 @@ pub fn is_large_budget(budget: u64) -> bool {
 
 // -- the run ----------------------------------------------------------------
 
-/// The run of an input that is not refused. `watch` is shown the marks at the start
-/// and after each instruction.
-fn guarded(input: &Input, mut watch: impl FnMut(&Marks)) -> Run {
+/// The run of an input that is not refused. `watch` is shown the owners at the
+/// start and after each instruction.
+fn guarded(input: &Input, mut watch: impl FnMut(&Owners)) -> Run {
     let mut machine = loaded(input);
-    let mut marks = started(input);
+    let mut owners = started(input);
     let mut executed = 0;
-    watch(&marks);
+    watch(&owners);
     let stop = loop {
-        if let Some(stop) = stop(input, &machine, &marks, executed) {
+        if let Some(stop) = stop(input, &machine, &owners, executed) {
             break stop;
         }
-        marks.follow(word_at_pc(&machine));
+        owners.follow(word_at_pc(&machine));
         machine.step_instruction();
         executed += 1;
-        watch(&marks);
+        watch(&owners);
     };
     if stop == Stop::Budget {
         // A spent budget halts the machine, as the original does it.
@@ -112,7 +118,7 @@ fn guarded(input: &Input, mut watch: impl FnMut(&Marks)) -> Run {
     }
     Run {
         machine,
-        marks,
+        owners,
         stop,
         executed,
     }
@@ -125,13 +131,13 @@ fn loaded(input: &Input) -> Machine {
     machine
 }
 
-fn started(input: &Input) -> Marks {
-    Marks::at_start(std::array::from_fn(|address| input.marks[address] == 1))
+fn started(input: &Input) -> Owners {
+    Owners::at_start(std::array::from_fn(|address| input.owners[address]))
 }
 
 /// Why the run goes no further, in the order in which it is asked before each
 /// instruction.
-fn stop(input: &Input, machine: &Machine, marks: &Marks, executed: u64) -> Option<Stop> {
+fn stop(input: &Input, machine: &Machine, owners: &Owners, executed: u64) -> Option<Stop> {
     if machine.halted {
         return Some(halted_stop(machine));
     }
@@ -141,11 +147,11 @@ fn stop(input: &Input, machine: &Machine, marks: &Marks, executed: u64) -> Optio
     if executed >= input.budget {
         return Some(Stop::Budget);
     }
-    if marks.memory[usize::from(machine.pc)] {
-        return Some(Stop::MarkedWord);
+    if hidden_from(owners.memory[usize::from(machine.pc)], input.clearance) {
+        return Some(Stop::HiddenWord);
     }
-    if marks.hide_the_test_of(word_at_pc(machine)) {
-        return Some(Stop::MarkedTest);
+    if owners.hide_the_test_of(word_at_pc(machine), input.clearance) {
+        return Some(Stop::HiddenTest);
     }
     None
 }
@@ -168,7 +174,7 @@ fn word_at_pc(machine: &Machine) -> u16 {
 fn checked(input: &Input, run: Run) -> Run {
     let mut plain = loaded(input);
     match run.stop {
-        Stop::MarkedWord | Stop::MarkedTest => {
+        Stop::HiddenWord | Stop::HiddenTest => {
             for _ in 0..run.executed {
                 plain.step_instruction();
             }
@@ -190,7 +196,7 @@ fn plain_stop(run: &Run) -> RunStop {
         Stop::Breakpoint => RunStop::Breakpoint(run.machine.pc),
         Stop::Fault => RunStop::Fault,
         Stop::Budget => RunStop::Budget,
-        Stop::MarkedWord | Stop::MarkedTest => unreachable!("the original has no such stop"),
+        Stop::HiddenWord | Stop::HiddenTest => unreachable!("the original has no such stop"),
     }
 }
 

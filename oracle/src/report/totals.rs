@@ -1,6 +1,6 @@
-//! How many words are hidden after each instruction: document 02, Change 6. The
-//! counts are the model's; what a report says of them is read from its own bytes,
-//! whoever wrote it.
+//! How many words are hidden from the reader after each instruction: document 02,
+//! Changes 6 and 7. The counts are the model's; what a report says of them is read from
+//! its own bytes, whoever wrote it.
 
 use crate::encoding::number;
 use crate::report::bytes::{COUNTS, END, FAULT, HIDDEN_WORDS};
@@ -12,8 +12,8 @@ const KIND_END: u8 = 0x08;
 const KIND_HIDDEN_WORDS: u8 = 0x0A;
 const UNKNOWN_WORD: u8 = 1;
 
-/// What the inputs of a case are due to say: they have one image and the same marks,
-/// and so they make the same instructions, up to the end of each. The counts are those
+/// What the inputs of a case are due to say: they have one image, the same owners and the
+/// same clearance, and so they make the same instructions, up to the end of each. The counts are those
 /// of one run, with the largest budget among them and no breakpoint: at the start, and
 /// after each instruction.
 pub fn due(inputs: &[Vec<u8>]) -> Vec<usize> {
@@ -22,7 +22,10 @@ pub fn due(inputs: &[Vec<u8>]) -> Vec<usize> {
         .map(|input| served(input).expect("such a case is served"))
         .collect();
     let first = &served[0];
-    let is_cut = |other: &Input| (&other.image, &other.marks) == (&first.image, &first.marks);
+    let is_cut = |other: &Input| {
+        (&other.image, &other.owners, other.clearance)
+            == (&first.image, &first.owners, first.clearance)
+    };
     assert!(served.iter().all(is_cut), "they make the same instructions");
     let budgets = served.iter().map(|input| input.budget);
     let longest = Input {
@@ -38,7 +41,7 @@ pub fn due(inputs: &[Vec<u8>]) -> Vec<usize> {
 pub struct Said {
     /// The instructions begun.
     pub begun: u64,
-    /// The words that are hidden at the stop.
+    /// The words that are hidden from the reader at the stop.
     pub hidden_words: u64,
 }
 

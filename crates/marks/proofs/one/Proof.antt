@@ -5,14 +5,14 @@ use borrow.Author.Needs.{needs}
 use Rattle.marks.proofs.one.Statement.{statement}
 use Rattle.marks.proofs.one.Tie as tie
 
-hides-requires : tie.Need-hides-requires
-hides-requires c κs = search needs
+is-hidden-requires : tie.Need-is-hidden-requires
+is-hidden-requires c κs = search needs
 
 returns : tie.Need-returns
-returns c = rw (sym (c .before .hides .ensures) ∙ c .if1 .taken)
+returns c = rw (sym (c .before .is-hidden .ensures) ∙ c .if1 .taken)
 
 returns-2 : tie.Need-returns-2
-returns-2 c = rw (sym (c .before .hides .ensures) ∙ c .if1 .left)
+returns-2 c = rw (sym (c .before .is-hidden .ensures) ∙ c .if1 .left)
 
 pub one-spec : {M : Type 1} → statement M
-one-spec = tie.close (tie.spec hides-requires returns returns-2)
+one-spec = tie.close (tie.spec is-hidden-requires returns returns-2)

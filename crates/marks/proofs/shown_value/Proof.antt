@@ -6,16 +6,16 @@ use borrow.Author.Needs.{needs}
 use Rattle.marks.proofs.shown_value.Statement.{statement}
 use Rattle.marks.proofs.shown_value.Tie as tie
 
-hides-requires : tie.Need-hides-requires
-hides-requires c κs = search needs
+is-hidden-requires : tie.Need-is-hidden-requires
+is-hidden-requires c κs = search needs
 
 returns : tie.Need-returns
 unfolding shown
-returns c = rw (sym (c .before .hides .ensures) ∙ c .if1 .taken)
+returns c = rw (sym (c .before .is-hidden .ensures) ∙ c .if1 .taken)
 
 returns-2 : tie.Need-returns-2
 unfolding shown
-returns-2 c = rw (sym (c .before .hides .ensures) ∙ c .if1 .left)
+returns-2 c = rw (sym (c .before .is-hidden .ensures) ∙ c .if1 .left)
 
 pub shown-value-spec : {M : Type 1} → statement M
-shown-value-spec = tie.close (tie.spec hides-requires returns returns-2)
+shown-value-spec = tie.close (tie.spec is-hidden-requires returns returns-2)

@@ -9,6 +9,7 @@ use oracle::report::guarded::Input;
 use oracle::report::inputs::examples::{example_11, longest_hidden_report};
 use oracle::report::inputs::refused;
 use oracle::report::inputs::sample::invented;
+use oracle::report::owners::hidden_from;
 use oracle::report::program::bytes;
 use oracle::sizes::{BREAKPOINTS, LISTING_WORDS, MEMORY_WORDS};
 use oracle::words::disassembly;
@@ -29,37 +30,48 @@ pub fn reports() -> Vec<(&'static str, Input)> {
     ]
 }
 
-/// The words that are marked.
+/// The words that are hidden from the reader.
 pub fn hidden(input: &Input) -> Vec<u16> {
-    let marked = input.image.iter().zip(&input.marks);
-    marked
-        .filter(|(_, mark)| **mark == 1)
+    let owned = input.image.iter().zip(&input.owners);
+    owned
+        .filter(|(_, owners)| hidden_from(**owners, input.clearance))
         .map(|(word, _)| *word)
         .collect()
 }
 
-/// The upper half is hidden; two words of it are added and stored again and
-/// again. No breakpoint is met.
+/// The upper half is hidden, by one owner or two in turn; two words of it are added and
+/// stored again and again. The lower half has an owner that the reader may see. No
+/// breakpoint is met.
 fn looping() -> Input {
     let mut image = vec![0x3180, 0x3281, 0x6312, 0x43FF, 0x4440, 0xD000];
     image.resize(HALF, 0x1234);
     image.extend((HALF..MEMORY_WORDS).map(|at| 0x5E00 | at as u16));
     Input {
         image,
-        marks: (0..MEMORY_WORDS).map(|at| u8::from(at >= HALF)).collect(),
+        owners: (0..MEMORY_WORDS).map(looping_owners).collect(),
         budget: 1_000,
         breakpoints: vec![0x7F; BREAKPOINTS],
+        clearance: 0x02,
+    }
+}
+
+fn looping_owners(address: usize) -> u8 {
+    match address {
+        0..HALF => 0x02,
+        _ if address % 2 == 0 => 0x04,
+        _ => 0x03,
     }
 }
 
 /// The run stops before its first instruction. Each value stands twice: no low
-/// byte is 00 or 01, which a report has as a mark behind an index.
+/// byte is 00 or 01, which a report has as an owner byte behind an index.
 fn all_hidden() -> Input {
     Input {
         image: (0..MEMORY_WORDS as u16).map(|at| 0x5F80 | at).collect(),
-        marks: vec![1; MEMORY_WORDS],
+        owners: vec![1; MEMORY_WORDS],
         budget: 9,
         breakpoints: Vec::new(),
+        clearance: 0,
     }
 }
 
@@ -67,15 +79,14 @@ fn all_hidden() -> Input {
 pub type Refused = (i64, Vec<u8>, usize);
 
 pub fn refused_reports() -> Vec<Refused> {
-    let offending = |choice| bytes(&refused::offending(choice));
+    let offending = |refusal| bytes(&refused::offending(&[refusal]));
     let whole = bytes(&looping());
     let longer = [&whole[..], &[0]].concat();
     let far_longer = [&whole[..], &vec![0; LONGEST]].concat();
     vec![
         (1, offending(1), LONGEST),
-        (2, offending(2), LONGEST),
-        (3, offending(4), LONGEST),
-        (4, offending(8), LONGEST),
+        (3, offending(3), LONGEST),
+        (4, offending(4), LONGEST),
         (5, whole.clone(), LONGEST - 1),
         (6, whole[..whole.len() - 1].to_vec(), LONGEST),
         (6, longer, LONGEST),

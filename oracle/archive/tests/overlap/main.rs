@@ -61,7 +61,7 @@ struct Difference {
     number: i64,
     /// The first byte that differs, counted from the output's start.
     from: isize,
-    /// How many marked values show in what was written.
+    /// How many hidden values show in what was written.
     shown: usize,
 }
 
@@ -77,7 +77,7 @@ fn differences(case: &Case) -> Vec<Difference> {
         .collect()
 }
 
-/// A right answer shows no marked value, since none shows with separate buffers.
+/// A right answer shows no hidden value, since none shows with separate buffers.
 fn difference(
     case: &Case,
     place: isize,
@@ -123,7 +123,7 @@ fn told(case: &Case) -> String {
     }
     let showing = differences.iter().filter(|it| it.shown > 0).count();
     let (name, all) = (&case.name, differences.len());
-    let mut told = format!("\n{name}: {all} places differ, {showing} show marked values");
+    let mut told = format!("\n{name}: {all} places differ, {showing} show hidden values");
     for it in differences.iter().take(SHOWN) {
         told += &format!(
             "\n    input at {}: answered {}, due {}; differs from byte {} on; {} values show",

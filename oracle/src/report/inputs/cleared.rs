@@ -9,7 +9,7 @@ use crate::report::inputs::examples::{input, with_word_10};
 use crate::report::inputs::opcodes::{self, behind_loads, marked};
 use crate::report::inputs::pairs::with_other_hidden;
 use crate::report::inputs::programs::{self, clearing, keeping};
-use crate::report::inputs::random;
+use crate::report::inputs::{random, readers};
 
 // -- chosen -----------------------------------------------------------------
 
@@ -41,7 +41,7 @@ pub fn words() -> Vec<u16> {
 }
 
 /// One of these words over hidden and open registers, stopped by its budget
-/// right behind the word, and at the end.
+/// right behind the word, and at the end; often with other owners than marks have.
 pub fn one(number: usize) -> Vec<Input> {
     let word = words()[number];
     let image = asking(word);
@@ -51,7 +51,10 @@ pub fn one(number: usize) -> Vec<Input> {
         _ => opcodes::MARKS,
     };
     (0..markings)
-        .flat_map(|bits| [5, 9].map(|budget| input(&image, &marked(bits), budget)))
+        .flat_map(|bits| {
+            let case = [5, 9].map(|budget| input(&image, &marked(bits), budget));
+            readers::owned_case(opcodes::MARKS * number + bits, case.to_vec())
+        })
         .collect()
 }
 
@@ -106,12 +109,14 @@ fn program(random: &mut Random) -> Input {
     image.extend((0..programs::ZONE).map(|_| programs::value(random)));
     let mut marks = programs::zone_marks(random, DATA, 2);
     marks[DATA..DATA + HIDDEN].fill(1);
-    Input {
+    let input = Input {
         image,
-        marks,
+        owners: marks,
         budget: AMPLE,
         breakpoints: Vec::new(),
-    }
+        clearance: 0,
+    };
+    readers::owned(random, input)
 }
 
 /// A hidden word is loaded, now and then one into R0 too, and moved by chance.

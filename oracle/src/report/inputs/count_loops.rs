@@ -6,6 +6,7 @@ use crate::programs::JUMP;
 use crate::report::guarded::Input;
 use crate::report::inputs::examples::{input, with_word_10};
 use crate::report::inputs::random::with_budgets;
+use crate::report::inputs::readers;
 use crate::report::inputs::stretches::{meeting, met, HIDDEN, MEETINGS};
 use crate::sizes::{LARGEST_BUDGET, MEMORY_WORDS};
 
@@ -51,7 +52,7 @@ pub fn sweeps(number: usize) -> Vec<Input> {
         _ => (0..1_300).step_by(37).collect(),
     };
     let budgets = budgets.into_iter().map(|budget| budget as u64);
-    with_budgets(&sweep(number % SWEEPS), budgets)
+    readers::owned_case(number, with_budgets(&sweep(number % SWEEPS), budgets))
 }
 
 // -- every stop at every bound ----------------------------------------------
@@ -98,7 +99,7 @@ pub fn stretches(number: usize) -> Vec<Input> {
     let met = met((number + 11 * (rest / BODIES.len())) % MEETINGS, body);
     let mut plain = meeting(begun, body, &met);
     if body == OPENING {
-        plain.marks[0x90..].fill(1);
+        plain.owners[0x90..].fill(1);
     }
     let begun = begun as u64;
     let budgets = [begun - 1, begun, begun + 1, plain.budget];
@@ -107,7 +108,8 @@ pub fn stretches(number: usize) -> Vec<Input> {
         breakpoints,
         ..plain.clone()
     };
-    [with_budgets(&plain, budgets), vec![stopped]].concat()
+    let case = [with_budgets(&plain, budgets), vec![stopped]].concat();
+    readers::owned_case(number, case)
 }
 
 // -- the largest budgets ----------------------------------------------------
@@ -149,5 +151,8 @@ pub fn long() -> Vec<Vec<Input>> {
         let input = meeting(most as usize - 1, BREATHING, &met);
         cases.push(with_budgets(&input, [most - 2, most]));
     }
+    let cases = cases.into_iter().enumerate();
     cases
+        .map(|(number, case)| readers::owned_case(number, case))
+        .collect()
 }

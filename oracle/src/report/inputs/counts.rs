@@ -4,8 +4,9 @@
 
 use crate::programs::{HALT, JUMP};
 use crate::report::guarded::Input;
-use crate::report::inputs::examples::{input, longest_hidden_report, marks_at, with_word_10};
+use crate::report::inputs::examples::{input, longest_hidden_report, owners_at, with_word_10};
 use crate::report::inputs::random::{with_budgets, with_every_budget};
+use crate::report::inputs::readers;
 use crate::sizes::MEMORY_WORDS;
 
 /// The most instructions of a run that every budget is tried on.
@@ -30,7 +31,8 @@ pub fn stores(number: usize) -> Vec<Input> {
     image.resize(0x20, 0);
     image.extend([HIDDEN, 0x1234]);
     let marked = [0x20, 0x21];
-    with_every_budget(&input(&image, &marked[..1 + both], LONGEST), LONGEST)
+    let case = with_every_budget(&input(&image, &marked[..1 + both], LONGEST), LONGEST);
+    readers::owned_case(number, case)
 }
 
 // -- stops ------------------------------------------------------------------
@@ -68,9 +70,9 @@ pub fn stops() -> Vec<Vec<Input>> {
     }
     programs.extend(over_itself());
     programs.extend(few_open());
+    let programs = programs.iter().enumerate();
     programs
-        .iter()
-        .map(|input| with_every_budget(input, SHORT))
+        .map(|(number, input)| readers::owned_case(number, with_every_budget(input, SHORT)))
         .collect()
 }
 
@@ -119,13 +121,13 @@ fn over_itself() -> Vec<Input> {
 fn few_open() -> Vec<Input> {
     let with = |words: &[(usize, u16)]| {
         let mut image = vec![HIDDEN; MEMORY_WORDS];
-        let mut marks = vec![1; MEMORY_WORDS];
+        let mut owners = vec![1; MEMORY_WORDS];
         for (address, word) in words {
-            (image[*address], marks[*address]) = (*word, 0);
+            (image[*address], owners[*address]) = (*word, 0);
         }
         Input {
             image,
-            marks,
+            owners,
             ..input(&[], &[], SHORT)
         }
     };
@@ -155,7 +157,7 @@ pub fn marks(number: usize) -> Vec<Input> {
     let first = MEMORY_WORDS - number;
     let marked: Vec<u8> = (first..MEMORY_WORDS).map(|at| at as u8).collect();
     let plain = input(&[0x31FF, 0x4100, 0x42FF, HALT], &marked, 0);
-    with_budgets(&plain, [0, 2, 3, 9])
+    readers::owned_case(number, with_budgets(&plain, [0, 2, 3, 9]))
 }
 
 // -- straight on ------------------------------------------------------------
@@ -171,9 +173,9 @@ pub fn straight() -> Vec<Vec<Input>> {
         again_and_again(|at| if at < 125 { 0x41FE } else { 0x42FE }),
     ];
     programs.extend([2, 3, 4, 5, 6, 8, 11, 16, 31].map(nearly_all_hidden));
+    let programs = programs.iter().enumerate();
     programs
-        .iter()
-        .map(|input| with_every_budget(input, LONGEST))
+        .map(|(number, input)| readers::owned_case(number, with_every_budget(input, LONGEST)))
         .collect()
 }
 
@@ -227,10 +229,10 @@ fn nearly_all_hidden(stores: u16) -> Input {
     image.extend((0..stores).map(|at| 0x4100 | at));
     image.extend((0..stores).map(|at| 0x4280 + at));
     image.push(HALT);
-    let mut marks = marks_at(&[]);
-    marks[image.len()..].fill(1);
+    let mut owners = owners_at(&[]);
+    owners[image.len()..].fill(1);
     Input {
-        marks,
+        owners,
         ..input(&image, &[], LONGEST)
     }
 }

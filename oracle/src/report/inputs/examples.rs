@@ -5,22 +5,25 @@ use crate::programs::HALT;
 use crate::report::guarded::Input;
 use crate::sizes::{BREAKPOINTS, CODE_WORDS, LARGEST_BUDGET, MEMORY_WORDS};
 
-/// An input without breakpoints, whose marks are at these addresses.
+/// An input without breakpoints, which is marked at these addresses: a mark of document
+/// 01 is the owner byte 01, for a reader with the clearance 00.
 pub fn input(image: &[u16], marked: &[u8], budget: u64) -> Input {
     Input {
         image: image.to_vec(),
-        marks: marks_at(marked),
+        owners: owners_at(marked),
         budget,
         breakpoints: Vec::new(),
+        clearance: 0,
     }
 }
 
-pub fn marks_at(marked: &[u8]) -> Vec<u8> {
-    let mut marks = vec![0; MEMORY_WORDS];
+/// The owner bytes of such marks.
+pub fn owners_at(marked: &[u8]) -> Vec<u8> {
+    let mut owners = vec![0; MEMORY_WORDS];
     for address in marked {
-        marks[usize::from(*address)] = 1;
+        owners[usize::from(*address)] = 1;
     }
-    marks
+    owners
 }
 
 /// A program, zeros up to address 10, and a word there.

@@ -7,9 +7,12 @@ pub mod count_loops;
 pub mod counts;
 pub mod examples;
 pub mod opcodes;
+pub mod owner_bytes;
+pub mod owner_pairs;
 pub mod pairs;
 pub mod programs;
 pub mod random;
+pub mod readers;
 pub mod refused;
 pub mod sample;
 pub mod stops;
@@ -25,7 +28,7 @@ pub struct Family {
     /// How many cases it has.
     pub count: fn() -> usize,
     /// What the program reads, once for each input of the case.
-    pub inputs: fn(usize) -> Vec<Vec<u8>>,
+    pub inputs: Inputs,
     pub relation: Relation,
 }
 
@@ -38,13 +41,13 @@ pub enum Relation {
     Same,
     /// They are reports, and none is the first.
     Different,
-    /// They are reports of one image with the same marks, and so of the same
-    /// instructions, up to the end of each: after as many of them, as many words are
-    /// hidden in each.
+    /// They are reports of one image with the same owners for one reader, and so of the
+    /// same instructions, up to the end of each: after as many of them, as many words
+    /// are hidden in each.
     Counted,
 }
 
-pub const FAMILIES: [Family; 29] = [
+pub const FAMILIES: [Family; 38] = [
     free(
         "sample",
         || sample::inputs().len(),
@@ -68,17 +71,17 @@ pub const FAMILIES: [Family; 29] = [
     free(
         "behind_a_load",
         || 1,
-        |_| all_bytes(&opcodes::behind_a_load()),
+        |_| owned_bytes(opcodes::behind_a_load()),
     ),
     free(
         "cleared",
         || cleared::words().len(),
         |number| all_bytes(&cleared::one(number)),
     ),
-    free("each_mark", || 1, |_| all_bytes(&opcodes::each_mark())),
-    free("stops", || 1, |_| all_bytes(&stops::stops())),
-    free("registers", || 1, |_| all_bytes(&stops::registers())),
-    free("addresses", || 1, |_| all_bytes(&stops::addresses())),
+    free("each_mark", || 1, |_| owned_bytes(opcodes::each_mark())),
+    free("stops", || 1, |_| owned_bytes(stops::stops())),
+    free("registers", || 1, |_| owned_bytes(stops::registers())),
+    free("addresses", || 1, |_| owned_bytes(stops::addresses())),
     free(
         "random",
         || random::RANDOM_INPUTS,
@@ -104,48 +107,47 @@ pub const FAMILIES: [Family; 29] = [
         || refused::DAMAGED_INPUTS,
         |number| vec![refused::damaged(number)],
     ),
-    Family {
-        name: "hidden",
-        count: || pairs::HIDDEN_CASES,
-        inputs: |number| all_bytes(&pairs::hidden(number)),
-        relation: Relation::Same,
-    },
-    Family {
-        name: "cleared_pairs",
-        count: || cleared::PAIR_CASES,
-        inputs: |number| all_bytes(&cleared::pairs(number)),
-        relation: Relation::Same,
-    },
-    Family {
-        name: "open",
-        count: || pairs::OPEN_CASES,
-        inputs: |number| all_bytes(&pairs::open(number)),
-        relation: Relation::Different,
-    },
-    Family {
-        name: "values",
-        count: || 256,
-        inputs: |number| all_bytes(&pairs::values(0, number)),
-        relation: Relation::Same,
-    },
+    same(
+        "hidden",
+        || pairs::HIDDEN_CASES,
+        |number| all_bytes(&pairs::hidden(number)),
+    ),
+    same(
+        "cleared_pairs",
+        || cleared::PAIR_CASES,
+        |number| all_bytes(&cleared::pairs(number)),
+    ),
+    different(
+        "open",
+        || pairs::OPEN_CASES,
+        |number| all_bytes(&pairs::open(number)),
+    ),
+    same(
+        "values",
+        || 256,
+        |number| all_bytes(&pairs::values(0, number)),
+    ),
     // A few of their values; the model is asked for all of them.
-    Family {
-        name: "more_values",
-        count: || pairs::MORE_VALUES,
-        inputs: |number| all_bytes(&pairs::more_values(number)),
-        relation: Relation::Same,
-    },
+    same(
+        "more_values",
+        || pairs::MORE_VALUES,
+        |number| all_bytes(&pairs::more_values(number)),
+    ),
+    different(
+        "shown_values",
+        || pairs::SHOWN_VALUES,
+        |number| all_bytes(&pairs::shown_values(number)),
+    ),
     counted(
         "stretch_ends",
         || stretches::END_CASES,
         |number| all_bytes(&stretches::ends(number)),
     ),
-    Family {
-        name: "stretch_random",
-        count: || stretches::RANDOM_CASES,
-        inputs: |number| all_bytes(&stretches::any(number)),
-        relation: Relation::Same,
-    },
+    same(
+        "stretch_random",
+        || stretches::RANDOM_CASES,
+        |number| all_bytes(&stretches::any(number)),
+    ),
     counted(
         "count_stores",
         || counts::STORE_CASES,
@@ -181,38 +183,92 @@ pub const FAMILIES: [Family; 29] = [
         || count_loops::long().len(),
         |number| all_bytes(&count_loops::long()[number]),
     ),
+    free(
+        "owner_bytes",
+        || owner_bytes::BYTE_CASES,
+        |number| all_bytes(&owner_bytes::bytes(number)),
+    ),
+    free(
+        "owner_unions",
+        || owner_bytes::OWNER_BYTES,
+        |number| all_bytes(&owner_bytes::unions(number)),
+    ),
+    free(
+        "owner_mdr",
+        || owner_bytes::OWNER_BYTES,
+        |number| all_bytes(&owner_bytes::mdr(number)),
+    ),
+    counted(
+        "owner_stores",
+        || owner_bytes::STORE_CASES,
+        |number| all_bytes(&owner_bytes::stores(number)),
+    ),
+    different(
+        "clearances",
+        || owner_pairs::CLEARANCE_CASES,
+        |number| all_bytes(&owner_pairs::clearances(number)),
+    ),
+    different(
+        "owner_bits",
+        || owner_pairs::OWNER_CASES,
+        |number| all_bytes(&owner_pairs::owner_bits(number)),
+    ),
+    same(
+        "words_outside",
+        || all_words(true).len(),
+        |number| all_bytes(&owner_pairs::words(all_words(true)[number])),
+    ),
+    different(
+        "words_inside",
+        || all_words(false).len(),
+        |number| all_bytes(&owner_pairs::words(all_words(false)[number])),
+    ),
 ];
 
+/// What the program reads, by the number of a case.
+type Inputs = fn(usize) -> Vec<Vec<u8>>;
+
 /// A family whose inputs have nothing to do with each other.
-const fn free(
-    name: &'static str,
-    count: fn() -> usize,
-    inputs: fn(usize) -> Vec<Vec<u8>>,
-) -> Family {
-    Family {
-        name,
-        count,
-        inputs,
-        relation: Relation::Free,
-    }
+const fn free(name: &'static str, count: fn() -> usize, inputs: Inputs) -> Family {
+    family(name, count, inputs, Relation::Free)
 }
 
-/// A family whose cases have one image and the same marks each.
-const fn counted(
+/// A family whose cases have one report each.
+const fn same(name: &'static str, count: fn() -> usize, inputs: Inputs) -> Family {
+    family(name, count, inputs, Relation::Same)
+}
+
+/// A family whose cases have a first report that no other is.
+const fn different(name: &'static str, count: fn() -> usize, inputs: Inputs) -> Family {
+    family(name, count, inputs, Relation::Different)
+}
+
+/// A family whose cases have one image, the same owners and one reader each.
+const fn counted(name: &'static str, count: fn() -> usize, inputs: Inputs) -> Family {
+    family(name, count, inputs, Relation::Counted)
+}
+
+const fn family(
     name: &'static str,
     count: fn() -> usize,
-    inputs: fn(usize) -> Vec<Vec<u8>>,
+    inputs: Inputs,
+    relation: Relation,
 ) -> Family {
     Family {
         name,
         count,
         inputs,
-        relation: Relation::Counted,
+        relation,
     }
 }
 
 fn all_bytes(inputs: &[Input]) -> Vec<Vec<u8>> {
     inputs.iter().map(bytes).collect()
+}
+
+/// The same runs, often by other owners and for other readers.
+fn owned_bytes(inputs: Vec<Input>) -> Vec<Vec<u8>> {
+    all_bytes(&readers::owned_each(inputs))
 }
 
 fn all_stops() -> &'static [Vec<Input>] {
@@ -223,6 +279,13 @@ fn all_stops() -> &'static [Vec<Input>] {
 fn all_straight() -> &'static [Vec<Input>] {
     static ALL: LazyLock<Vec<Vec<Input>>> = LazyLock::new(counts::straight);
     &ALL
+}
+
+/// The cases of a word that is hidden, and of one that is not.
+fn all_words(hidden: bool) -> &'static [usize] {
+    static ALL: LazyLock<[Vec<usize>; 2]> =
+        LazyLock::new(|| [false, true].map(owner_pairs::word_cases));
+    &ALL[usize::from(hidden)]
 }
 
 fn all_refused() -> &'static [Vec<u8>] {

@@ -21,13 +21,26 @@ pub const MARKS: usize = 16;
 pub const OPCODE_CASES: usize = OPCODES.len() * DIGITS * MARKS;
 
 /// One of them, stopped by its budget right behind the instruction, and with
-/// instructions behind it.
+/// instructions behind it; then once more with an owner for each register.
 pub fn one(number: usize) -> Vec<Input> {
     let word = OPCODES[number / MARKS / DIGITS] << 12 | digits(number / MARKS % DIGITS);
-    let marked = marked(number % MARKS);
-    [5, 8]
+    let hidden = number % MARKS;
+    let marked = marked(hidden);
+    let mut case = [5, 8]
         .map(|budget| input(&image(word), &marked, budget))
-        .to_vec()
+        .to_vec();
+    case.push(each_its_owner(input(&image(word), &[], 5), hidden));
+    case
+}
+
+/// Each word of the data has an owner of its own, so that an owner byte tells which of
+/// them a value was made of. The reader is kept from those whose bits are set.
+fn each_its_owner(mut input: Input, hidden: usize) -> Input {
+    for index in 0..usize::from(REGISTERS) {
+        input.owners[DATA + index] = 1 << index;
+    }
+    let clearance = !(hidden as u8);
+    Input { clearance, ..input }
 }
 
 /// The registers x, y and z, with z equal to x in the first half alone.
@@ -65,7 +78,7 @@ pub fn behind_loads(code: &[u16], values: Values) -> Vec<u16> {
 }
 
 /// One instruction behind a LOAD [yz] of a hidden word, at each stop that can
-/// show MDR's mark: budget, breakpoint, a hidden word and a hidden test.
+/// show MDR's owners: budget, breakpoint, a hidden word and a hidden test.
 pub fn behind_a_load() -> Vec<Input> {
     let image = |next: u16| {
         let mut image = image(next);

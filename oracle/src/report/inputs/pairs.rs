@@ -1,16 +1,17 @@
-//! Inputs that belong together. Such as differ in hidden words alone must have
-//! one report; such as differ in one open thing must have two.
+//! Inputs that belong together. Such as differ in words alone that are hidden from the
+//! reader must have one report; such as differ in one open thing must have two.
 
 use crate::machines::EDGES;
 use crate::programs::HALT;
 use crate::random::Random;
 use crate::report::guarded::Input;
 use crate::report::inputs::examples::{input, with_word_10};
-use crate::report::inputs::random;
+use crate::report::inputs::{random, readers};
+use crate::report::owners::hidden_from;
 use crate::sizes::{BREAKPOINTS, LARGEST_BUDGET, MEMORY_WORDS};
 
 pub const HIDDEN_CASES: usize = 3_000;
-pub const OPEN_CASES: usize = 6 * 500;
+pub const OPEN_CASES: usize = 7 * 500;
 
 // -- hidden words -----------------------------------------------------------
 
@@ -31,7 +32,11 @@ fn with_hidden(random: &mut Random) -> Input {
         input.image.push(HALT);
     }
     if hidden_addresses(&input).is_empty() {
-        input.marks[random.below(input.image.len())] = 1;
+        if input.clearance == 0xFF {
+            input.clearance = 0x7F;
+        }
+        let address = random.below(input.image.len());
+        input.owners[address] = readers::hiding(random, input.clearance);
         // The run may be another one now.
         input.budget = input.budget.min(400);
     }
@@ -39,17 +44,17 @@ fn with_hidden(random: &mut Random) -> Input {
 }
 
 fn hidden_addresses(input: &Input) -> Vec<usize> {
-    addresses(input, 1)
+    addresses(input, true)
 }
 
 fn open_addresses(input: &Input) -> Vec<usize> {
-    addresses(input, 0)
+    addresses(input, false)
 }
 
-/// The addresses of the image with this mark.
-fn addresses(input: &Input, mark: u8) -> Vec<usize> {
-    let has = |address: &usize| input.marks[*address] == mark;
-    (0..input.image.len()).filter(has).collect()
+/// The addresses of the image that are hidden from the reader, or those that are not.
+fn addresses(input: &Input, hidden: bool) -> Vec<usize> {
+    let is_so = |address: &usize| hidden_from(input.owners[*address], input.clearance) == hidden;
+    (0..input.image.len()).filter(is_so).collect()
 }
 
 /// The same with another word at each hidden address of the image.
@@ -67,7 +72,7 @@ fn with_others(random: &mut Random, input: &Input, addresses: &[usize]) -> Input
     other
 }
 
-fn another(random: &mut Random, word: u16) -> u16 {
+pub fn another(random: &mut Random, word: u16) -> u16 {
     let other = match random.below(3) {
         0 => random.pick(&EDGES),
         1 => word ^ 1 << random.below(16),
@@ -81,11 +86,26 @@ fn another(random: &mut Random, word: u16) -> u16 {
 
 // -- every value of one hidden word -----------------------------------------
 
-/// Programs whose word 10 is hidden.
+/// Programs that do something with their word 10.
 pub const VALUE_PROGRAMS: usize = 9;
+/// That word has two owners, of whom the first reader may see one, and the second both.
+const VALUE_OWNERS: u8 = 0x05;
+const KEPT_FROM_IT: u8 = 0x06;
+const SHOWN_IT: u8 = 0x07;
 
-/// A program with this hidden word.
+/// A program with this word, which is hidden.
 pub fn value(program: usize, word: u16) -> Input {
+    owned_value(program, word, VALUE_OWNERS, KEPT_FROM_IT)
+}
+
+/// The same for a reader who sees it.
+pub fn shown_value(program: usize, word: u16) -> Input {
+    owned_value(program, word, VALUE_OWNERS, SHOWN_IT)
+}
+
+/// A program with this word, its owners and a reader. Words 00, 01 and 11 have owners whom
+/// the reader may see, if there are any.
+pub fn owned_value(program: usize, word: u16, owners: u8, clearance: u8) -> Input {
     let reckoning = [
         0x3110, 0x6211, 0x8203, 0x7020, 0xA312, 0xB412, 0xC512, 0x910F, 0x4211, 0x2061, 0x4313,
         0xC711, 0x4714, 0x1105, HALT,
@@ -110,17 +130,23 @@ pub fn value(program: usize, word: u16) -> Input {
         // Cleared by XOR into another register and by a shift, with a jump on each.
         _ => (&clearing, 9),
     };
-    input(&with_word_10(code, word), &[0x10], budget)
+    let image = with_word_10(code, word);
+    let mut input = input(&image, &[], budget);
+    input.owners[..2].copy_from_slice(&[clearance & 0x33, clearance]);
+    input.owners[0x10..0x12].copy_from_slice(&[owners, clearance & 0xCC]);
+    Input { clearance, ..input }
 }
 
 /// All values with one high byte; the value 0 stands first, so that the cases
 /// of a program hang together.
 pub fn values(program: usize, high: usize) -> Vec<Input> {
-    let words = (0..256).map(|low| (high << 8 | low) as u16);
-    [0].into_iter()
-        .chain(words)
-        .map(|word| value(program, word))
-        .collect()
+    let words = words_from(high);
+    let zero = [value(program, 0)].into_iter();
+    zero.chain(words.map(|word| value(program, word))).collect()
+}
+
+fn words_from(high: usize) -> impl Iterator<Item = u16> {
+    (0..256).map(move |low| (high << 8 | low) as u16)
 }
 
 /// Some high bytes: of unknown words and of AND, and of words whose texts would end
@@ -134,18 +160,28 @@ pub fn more_values(number: usize) -> Vec<Input> {
     values(1 + number / HIGHS.len(), HIGHS[number % HIGHS.len()])
 }
 
+/// All values but the first with one of these high bytes, in any of the programs, for the
+/// reader who sees the word.
+pub const SHOWN_VALUES: usize = VALUE_PROGRAMS;
+
+pub fn shown_values(number: usize) -> Vec<Input> {
+    let words = words_from(HIGHS[number % HIGHS.len()]);
+    words.map(|word| shown_value(number, word)).collect()
+}
+
 // -- open things ------------------------------------------------------------
 
 /// Two inputs that differ in one open thing.
 pub fn open(number: usize) -> Vec<Input> {
     let mut random = Random::new(0x09E4_0000_0000 + number as u64);
-    let change = [length, budget, breakpoint, order, mark, word][number % 6];
+    let changes = [length, budget, breakpoint, order, owner, clearance, word];
+    let change = changes[number % changes.len()];
     let (input, other) = change(&mut random);
     vec![input, other]
 }
 
 /// An input by chance with room for one more word and one more breakpoint.
-fn roomy(random: &mut Random) -> Input {
+pub fn roomy(random: &mut Random) -> Input {
     let mut input = random::by(random);
     input.image.truncate(MEMORY_WORDS - 1);
     input.breakpoints.truncate(BREAKPOINTS - 1);
@@ -208,20 +244,31 @@ fn order(random: &mut Random) -> (Input, Input) {
     (input, other)
 }
 
-/// Any mark, inside the image or outside.
-fn mark(random: &mut Random) -> (Input, Input) {
+/// One owner more or less of any word, inside the image or outside.
+fn owner(random: &mut Random) -> (Input, Input) {
     let input = roomy(random);
     let mut other = input.clone();
-    other.marks[random.below(MEMORY_WORDS)] ^= 1;
+    other.owners[random.below(MEMORY_WORDS)] ^= 1 << random.below(8);
     (input, other)
 }
 
-/// An open word of the image, by one bit or wholly.
+/// Another reader, by one owner or by several.
+fn clearance(random: &mut Random) -> (Input, Input) {
+    let input = roomy(random);
+    let mut other = input.clone();
+    other.clearance ^= match random.below(2) {
+        0 => 1 << random.below(8),
+        _ => 1 + random.below(255) as u8,
+    };
+    (input, other)
+}
+
+/// A word of the image that the reader sees, by one bit or wholly.
 fn word(random: &mut Random) -> (Input, Input) {
     let mut input = roomy(random);
     if open_addresses(&input).is_empty() {
         input.image.resize(input.image.len().max(1), HALT);
-        input.marks[0] = 0;
+        input.owners[0] = input.clearance;
     }
     let address = random.pick(&open_addresses(&input));
     let other = with_others(random, &input, &[address]);

@@ -5,14 +5,15 @@ use crate::machines::EDGES;
 use crate::programs::{self, HALT, JUMP};
 use crate::random::Random;
 use crate::report::guarded::Input;
-use crate::report::inputs::examples::marks_at;
+use crate::report::inputs::examples::owners_at;
+use crate::report::inputs::readers;
 use crate::sizes::{LARGEST_BUDGET, MEMORY_WORDS, WORD_BITS};
 
 /// How many words the data of a program has.
 pub const ZONE: usize = 8;
 
-/// A program of any of these kinds with its marks, without breakpoints and
-/// with the largest budget.
+/// A program of any of these kinds with its owners, without breakpoints and with the
+/// largest budget. One in four is for a reader whom its makers did not have in mind.
 pub fn any(random: &mut Random) -> Input {
     let (image, marks) = match random.below(18) {
         0..=3 => with_data(random, straight),
@@ -23,11 +24,16 @@ pub fn any(random: &mut Random) -> Input {
         15 => opening(random),
         _ => plain(random),
     };
-    Input {
+    let input = Input {
         image,
-        marks,
+        owners: marks,
         budget: LARGEST_BUDGET,
         breakpoints: Vec::new(),
+        clearance: 0,
+    };
+    match random.below(4) {
+        0 => readers::for_any(random, input),
+        _ => readers::owned(random, input),
     }
 }
 
@@ -57,11 +63,12 @@ pub fn value(random: &mut Random) -> u16 {
 
 // -- marks ------------------------------------------------------------------
 
-/// None, one, some or all; mostly of the data.
+/// None, one, some or all; mostly of the data. A mark is the owner byte 01, until the
+/// program gets its owners and its reader.
 fn marks(random: &mut Random, zone: usize) -> Vec<u8> {
     match random.below(16) {
-        0 => marks_at(&[]),
-        1..=3 => marks_at(&[(zone + random.below(ZONE)) as u8]),
+        0 => owners_at(&[]),
+        1..=3 => owners_at(&[(zone + random.below(ZONE)) as u8]),
         4..=7 => zone_marks(random, zone, 2),
         8 | 9 => zone_marks(random, zone, 1),
         10 | 11 => one_in_code(random, zone),
@@ -74,7 +81,7 @@ fn marks(random: &mut Random, zone: usize) -> Vec<u8> {
 
 /// One in so many of the data, by chance.
 pub fn zone_marks(random: &mut Random, zone: usize, one_in: usize) -> Vec<u8> {
-    let mut marks = marks_at(&[]);
+    let mut marks = owners_at(&[]);
     for mark in &mut marks[zone..zone + ZONE] {
         *mark = u8::from(random.below(one_in) == 0);
     }
@@ -105,7 +112,7 @@ fn from(address: usize) -> Vec<u8> {
 // -- code -------------------------------------------------------------------
 
 /// One instruction that neither jumps nor stops. It has few registers and few
-/// addresses, so that marks meet.
+/// addresses, so that owners meet.
 fn instruction(random: &mut Random, zone: usize) -> u16 {
     let opcode = random.pick(&[
         1, 1, 2, 2, 3, 3, 3, 3, 4, 4, 4, 6, 6, 7, 8, 9, 0xA, 0xB, 0xC,
@@ -281,7 +288,7 @@ fn opening(random: &mut Random) -> (Vec<u16>, Vec<u8>) {
     image.extend(end(random));
     image.resize(source, 0);
     image.extend((0..count).map(|_| instruction(random, source)));
-    let mut marks = marks_at(&[]);
+    let mut marks = owners_at(&[]);
     marks[code..code + count].fill(1);
     // Now and then one of them stays hidden.
     if random.below(3) == 0 {
@@ -295,8 +302,8 @@ fn plain(random: &mut Random) -> (Vec<u16>, Vec<u8>) {
     let mut image = programs::any(random);
     image.truncate(MEMORY_WORDS);
     let marks = match random.below(4) {
-        0 => marks_at(&[]),
-        1 => marks_at(&[random.byte()]),
+        0 => owners_at(&[]),
+        1 => owners_at(&[random.byte()]),
         2 => by_chance(random, 64),
         _ => from(image.len() / 2 + random.below(20)),
     };

@@ -93,7 +93,7 @@ fn address(random: &mut Random, tried: &Run) -> u8 {
 
 /// One program with every budget from 0 to one past its end, or to 40 where it
 /// has none: only a run that ends right behind LOAD [yz] or STORE shows MDR's
-/// mark, and a run to HALT hides it.
+/// owners, and a run to HALT hides them.
 pub fn every_budget(number: usize) -> Vec<Input> {
     let mut random = Random::new(0xB0D6_0000_0000 + number as u64);
     with_every_budget(&programs::any(&mut random), SHORT)

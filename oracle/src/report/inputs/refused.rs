@@ -1,6 +1,6 @@
 //! Inputs of `massey_report` that are refused, and such as are just not: each
-//! bound, every company of refusals, inputs cut at each byte, over-long and
-//! damaged ones.
+//! bound, every company of refusals, inputs cut at each byte and around the clearance,
+//! over-long and damaged ones.
 
 use crate::programs::HALT;
 use crate::random::Random;
@@ -13,11 +13,11 @@ use crate::sizes::{BREAKPOINTS, LARGEST_BUDGET, MEMORY_WORDS};
 pub const DAMAGED_INPUTS: usize = 2_000;
 
 /// What each part of a whole input ends at, for an image of so many words:
-/// length, words, marks, budget and count; the breakpoints are behind.
+/// length, words, owners, budget and count; the breakpoints and the clearance are behind.
 fn ends(words: usize) -> [usize; 5] {
     let words = 2 + 2 * words;
-    let marks = words + MEMORY_WORDS;
-    [2, words, marks, marks + 8, marks + 8 + 2]
+    let owners = words + MEMORY_WORDS;
+    [2, words, owners, owners + 8, owners + 8 + 2]
 }
 
 /// A program that ends at once, in an image of so many words and with so many
@@ -49,7 +49,7 @@ pub fn bounds() -> Vec<Vec<u8>> {
         inputs.push(bytes(&sized(3, count)));
     }
     inputs.extend(budgets().iter().map(bytes));
-    inputs.extend(single_marks());
+    inputs.extend(owner_bytes());
     inputs
 }
 
@@ -63,27 +63,28 @@ fn budgets() -> Vec<Input> {
     budgets.map(|budget| input(&[HALT], &[], budget)).collect()
 }
 
-/// Every value of one mark, and a bad mark at every address.
-fn single_marks() -> Vec<Vec<u8>> {
-    let with = |address: usize, mark: u8| {
+/// Every byte as a word's owners, and two of them at every address. All are lawful.
+pub fn owner_bytes() -> Vec<Vec<u8>> {
+    let with = |address: usize, owners: u8| {
         let mut input = sized(2, 1);
-        input.marks[address] = mark;
+        input.owners[address] = owners;
         bytes(&input)
     };
-    let values = (0..=255).map(|mark| with(7, mark));
+    let values = (0..=255).map(|owners| with(7, owners));
     let addresses = (0..MEMORY_WORDS).flat_map(|address| [with(address, 2), with(address, 128)]);
     values.chain(addresses).collect()
 }
 
 // -- every company ----------------------------------------------------------
 
-/// Every choice of the refusals 1 to 4, with inputs that are whole, cut or
+/// Every choice of the refusals 1, 3 and 4, with inputs that are whole, cut or
 /// longer: the order of the numbers decides, not that of the parts.
 pub fn companies() -> Vec<Vec<u8>> {
+    let choices: [&[u8]; 8] = [&[], &[1], &[3], &[1, 3], &[4], &[1, 4], &[3, 4], &[1, 3, 4]];
     let mut inputs = Vec::new();
-    for choice in 0..16 {
-        let whole = bytes(&offending(choice));
-        let words = offending(choice).image.len();
+    for refusals in choices {
+        let whole = bytes(&offending(refusals));
+        let words = offending(refusals).image.len();
         for end in ends(words).into_iter().chain([whole.len()]) {
             inputs.extend(around(&whole, end));
         }
@@ -92,16 +93,12 @@ pub fn companies() -> Vec<Vec<u8>> {
     inputs
 }
 
-/// An input that offends as a choice's four bits say: the lowest bit is for
-/// refusal 1.
-pub fn offending(choice: usize) -> Input {
-    let has = |refusal: usize| choice >> (refusal - 1) & 1 == 1;
+/// An input that offends so that each of these refusals holds, of 1, 3 and 4.
+pub fn offending(refusals: &[u8]) -> Input {
+    let has = |refusal: u8| refusals.contains(&refusal);
     let words = if has(1) { MEMORY_WORDS + 1 } else { 2 };
     let breakpoints = if has(3) { BREAKPOINTS + 1 } else { 2 };
     let mut input = sized(words, breakpoints);
-    if has(2) {
-        input.marks[0x80] = 2;
-    }
     if has(4) {
         input.budget = LARGEST_BUDGET + 1;
     }
@@ -150,8 +147,33 @@ pub fn lengths() -> Vec<Vec<u8>> {
         }
         inputs.extend([1, 2, 7, 256, 1_000, 4_096, 70_000].map(|more| longer(&whole, more)));
     }
+    inputs.extend(around_the_clearance());
     inputs.extend(counts());
-    inputs.extend(bad_marks_cut());
+    inputs.extend(owners_cut());
+    inputs
+}
+
+/// Inputs that end before the clearance, with it, and one or two bytes behind it: with
+/// the fewest and the most words and breakpoints, for several readers. What stands before
+/// the clearance is an owner or a breakpoint, or the count's low byte, and is none.
+fn around_the_clearance() -> Vec<Vec<u8>> {
+    let mut inputs = Vec::new();
+    for (words, breakpoints) in [
+        (0, 0),
+        (1, 1),
+        (MEMORY_WORDS, 0),
+        (MEMORY_WORDS, BREAKPOINTS),
+    ] {
+        for clearance in [0x00, 0x01, 0x80, 0xFE, 0xFF] {
+            let whole = bytes(&Input {
+                clearance,
+                ..sized(words, breakpoints)
+            });
+            inputs.push(whole[..whole.len() - 1].to_vec());
+            inputs.extend([1, 2].map(|more| longer(&whole, more)));
+            inputs.push(whole);
+        }
+    }
     inputs
 }
 
@@ -175,15 +197,16 @@ fn counts() -> Vec<Vec<u8>> {
     inputs
 }
 
-/// A bad mark, first or last, among marks that are not all there.
-fn bad_marks_cut() -> Vec<Vec<u8>> {
-    let marks_end = ends(1)[2];
+/// Owners over 1, first or last, among owners that are not all there: no byte of them is
+/// refused, but for what is missing.
+fn owners_cut() -> Vec<Vec<u8>> {
+    let owners_end = ends(1)[2];
     let mut inputs = Vec::new();
-    for bad in [0, MEMORY_WORDS - 1] {
+    for address in [0, MEMORY_WORDS - 1] {
         let mut input = sized(1, 1);
-        input.marks[bad] = 2;
+        input.owners[address] = 2;
         let whole = bytes(&input);
-        inputs.extend((marks_end - MEMORY_WORDS..=whole.len()).map(|cut| whole[..cut].to_vec()));
+        inputs.extend((owners_end - MEMORY_WORDS..=whole.len()).map(|cut| whole[..cut].to_vec()));
     }
     inputs
 }
@@ -210,12 +233,14 @@ fn small_budget(input: Input) -> Input {
 
 fn damage(random: &mut Random, bytes: &mut Vec<u8>) {
     let at = random.below(bytes.len());
-    match random.below(8) {
+    match random.below(9) {
         0 => drop(bytes.remove(at)),
         1 => bytes.insert(at, random.byte()),
         2 => bytes[0] = random.below(3) as u8,
         3 => bytes[1] = random.byte(),
         4 => bytes[at] ^= 1 << random.below(8),
+        // The clearance, as long as nothing is missing.
+        5 => *bytes.last_mut().expect("some are left") ^= 1 << random.below(8),
         _ => bytes[at] ^= 1,
     }
 }

@@ -12,18 +12,46 @@ use crate::report::inputs::{cleared, opcodes, pairs, random, refused};
 use crate::report::program::{answer, bytes};
 use crate::sizes::MEMORY_WORDS;
 
-/// The program's own sample, for its folder. A hidden word of what it says is
-/// loaded, copied and stored; then R1 is open again, and a jump leads to HALT.
-/// The copy has a digit that it does not use, and so has the hidden word that is
-/// jumped over.
+/// The program's own sample, for its folder, for a reader who may see owners 02 and 04.
+/// Two words of what it says, with one of these owners each, are loaded, copied, added and
+/// stored: the sum is shown, with both owners. A word with the owner 01 is put to it, and
+/// the result is hidden. R1 gets no owner again, a jump leads over a hidden word, and one
+/// on the copy, which the reader may see, is not taken. R9 is cleared, and HALT ends it.
+///
+/// The addition has an owner too, and is carried out. The copy has a digit that it does
+/// not use, and so has the hidden word that is jumped over.
 pub fn invented() -> Input {
-    let program = [0x310A, 0x2F21, 0x4218, 0x1107, 0x4119, 0xD007, 0xEABC, HALT];
+    let program = [
+        0x3110, 0x2F21, 0x3311, 0x6423, 0x4418, // R4 and word 18: owners 06, shown
+        0x3512, 0xB645, 0x4619, // R6 and word 19: owners 07, hidden
+        0x1107, 0x411A, // R1 and word 1A: none
+        0xD00C, 0xEABC, // over the hidden word
+        0x3713, 0xD20F, 0xC977, HALT, // R7: owners 03, hidden; R9: none
+    ];
     let image = [&program[..], &images::saying_invented()].concat();
-    Input {
-        breakpoints: vec![6, 0, 6],
-        ..input(&image, &[0x06, 0x0A, 0x20], 20)
+    let mut input = Input {
+        breakpoints: vec![0x0B, 0x00, 0x0B],
+        clearance: 0x06,
+        ..input(&image, &[], 20)
+    };
+    for (address, owners) in INVENTED_OWNERS {
+        input.owners[address] = owners;
     }
+    input
 }
+
+/// Inside the clearance: the addition, two words and one behind the image. Outside: the
+/// word that is jumped over, one word, and one behind the image. Word 13 has both.
+const INVENTED_OWNERS: [(usize, u8); 8] = [
+    (0x03, 0x04),
+    (0x0B, 0x08),
+    (0x10, 0x02),
+    (0x11, 0x04),
+    (0x12, 0x01),
+    (0x13, 0x03),
+    (0x20, 0x80),
+    (0x21, 0x06),
+];
 
 /// What the program reads, once for each record.
 pub fn inputs() -> Vec<Vec<u8>> {
@@ -34,18 +62,44 @@ pub fn inputs() -> Vec<Vec<u8>> {
     inputs
 }
 
-/// Each stop, MDR's mark behind a load, hidden values, runs by chance, words whose
-/// texts may end in them, registers that are cleared or nearly so, and numbers of hidden
-/// words.
+/// Each stop, MDR's owners behind a load, hidden values, runs by chance, words whose
+/// texts may end in them, registers that are cleared or nearly so, numbers of hidden
+/// words, and several readers.
 fn served() -> Vec<Input> {
     let behind = opcodes::behind_a_load();
     let mut served: Vec<Input> = [24, 26, 28, 50].map(|at| behind[at].clone()).to_vec();
-    served.extend((0..pairs::VALUE_PROGRAMS).map(|program| pairs::value(program, 0x8001)));
-    served.extend((0..8).map(|number| random::any(11 * number)));
+    served.extend([0, 1, 2, 3, 6, 7, 8].map(|program| pairs::value(program, 0x8001)));
+    served.extend((0..5).map(|number| random::any(11 * number)));
     served.push(partly_used());
     served.extend(cleared::ROWS.map(cleared::row));
     served.extend(counted());
+    served.extend(other_readers());
+    served.extend(owners_at_the_end());
     served
+}
+
+/// The program's own sample for readers who may see nothing, less, more, and all.
+pub fn other_readers() -> [Input; 4] {
+    [0x00, 0x04, 0x07, 0xFF].map(|clearance| Input {
+        clearance,
+        ..invented()
+    })
+}
+
+/// A word with four owners is loaded, and R1 is stored; the run ends behind either, or at
+/// a jump on R1: for a reader who may see three of the owners, and for one who may see
+/// all four. The second sees them with the value.
+pub fn owners_at_the_end() -> Vec<Input> {
+    let image = with_word_10(&[0x3110, 0x4111, 0xD104, HALT, HALT], 0x5EC7);
+    let mut inputs = Vec::new();
+    for clearance in [0xE1, 0xE3] {
+        for budget in [1, 2, 3] {
+            let mut input = input(&image, &[], budget);
+            input.owners[0x10] = 0xC3;
+            inputs.push(Input { clearance, ..input });
+        }
+    }
+    inputs
 }
 
 /// Two words more are hidden, one of them by itself; the only hidden word is opened; a
@@ -55,7 +109,7 @@ pub fn counted() -> [Input; 4] {
     let hiding = with_word_10(&[0x3110, 0x4111, 0x4102, HALT], 0x5EC7);
     let opening = with_word_10(&[0x1105, 0x4110, HALT], 0x5EC7);
     let all_hidden = Input {
-        marks: vec![1; MEMORY_WORDS],
+        owners: vec![1; MEMORY_WORDS],
         ..input(&[HALT], &[], 9)
     };
     [
@@ -77,8 +131,9 @@ fn partly_used() -> Input {
 /// Each refusal, alone and before the others, and inputs that are cut or longer
 /// than their counts say.
 fn refused() -> Vec<Vec<u8>> {
-    let mut refused: Vec<Vec<u8>> = [1, 2, 4, 8, 15, 14, 12]
-        .map(|choice| bytes(&refused::offending(choice)))
+    let offences: [&[u8]; 6] = [&[1], &[3], &[4], &[1, 3, 4], &[3, 4], &[1, 4]];
+    let mut refused: Vec<Vec<u8>> = offences
+        .map(|refusals| bytes(&refused::offending(refusals)))
         .to_vec();
     let whole = bytes(&invented());
     let longer = [&whole[..], &[0]].concat();

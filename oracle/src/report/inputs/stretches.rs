@@ -7,8 +7,7 @@ use crate::programs::{HALT, IDLE, JUMP};
 use crate::random::Random;
 use crate::report::guarded::Input;
 use crate::report::inputs::examples::input;
-use crate::report::inputs::pairs;
-use crate::report::inputs::programs;
+use crate::report::inputs::{pairs, programs, readers};
 use crate::sizes::BREAKPOINTS;
 
 /// More than any of these runs begins before its end.
@@ -122,7 +121,7 @@ fn coming_to(words: Vec<u16>, more: usize, marked: Vec<u16>) -> Met {
 pub const END_CASES: usize = BOUNDS * MEETINGS * BODIES.len();
 
 /// One program that ends at a bound, with 0, 1 and 256 breakpoints, and with
-/// budgets around its end.
+/// budgets around its end; often with other owners than marks have.
 pub fn ends(number: usize) -> Vec<Input> {
     let (begun, rest) = bound_of(number);
     let body = BODIES[rest % BODIES.len()];
@@ -138,7 +137,8 @@ pub fn ends(number: usize) -> Vec<Input> {
         budget,
         ..plain.clone()
     });
-    by_breakpoints.into_iter().chain(by_budgets).collect()
+    let case = by_breakpoints.into_iter().chain(by_budgets).collect();
+    readers::owned_case(number, case)
 }
 
 /// A program that has begun so many instructions at its end.
@@ -161,9 +161,10 @@ pub fn any(number: usize) -> Vec<Input> {
     let body = turn(random);
     let met = met(random.below(MEETINGS), &body);
     let mut input = meeting(begun, &body, &met);
-    for mark in &mut input.marks[MOVED.into()..HIDDEN.into()] {
-        *mark = random.below(2) as u8;
+    for owners in &mut input.owners[MOVED.into()..HIDDEN.into()] {
+        *owners = random.below(2) as u8;
     }
+    input = readers::owned(random, input);
     if random.below(2) == 0 {
         input.budget = begun as u64 + 3 - random.below(7) as u64;
     }

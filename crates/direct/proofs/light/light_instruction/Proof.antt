@@ -1,5 +1,6 @@
 -- Assumes nothing.
 use denote.Ref.{now}
+use Rattle.marks.specs.Owners.{hiddenFrom}
 use Rattle.direct.specs.Lane.{slotsOf}
 use Rattle.direct.proofs.Words.{sends}
 use Rattle.direct.proofs.Lanes.{is-step}
@@ -40,7 +41,7 @@ count-whole-requires c κs = search needs
 returns : tie.Need-returns
 returns c =
     let a = c .before .before .before .before .before .before .before .before .before .before .before .before .before .before .before .before .before .before .before .args in
-    is-step (a .decoded) (a .word) (slotsOf (a .s) (now (a .memory)) (now (a .registers)) (now (a .touched)) (now (a .seen)) (now (a .marks)) (now (a .register-marks))) (c .before .before .before .before .before .before .before .before .work-of .result)
+    is-step (hiddenFrom (a .clearance)) (a .decoded) (a .word) (slotsOf (a .s) (now (a .memory)) (now (a .registers)) (now (a .touched)) (now (a .seen)) (now (a .marks)) (now (a .register-marks))) (c .before .before .before .before .before .before .before .before .work-of .result)
     (c .before .before .before .before .before .before .before .before .before .before .before .before .before .before .before .before .total-decoded .ensures) (c .before .before .before .before .before .before .before .before .before .before .before .before .before .mark-decoded .ensures) (c .before .before .before .before .before .before .before .before .before .before .read-operands .ensures) (c .before .before .before .before .before .before .before .before .before .wrapping-add-u8 .ensures) (c .before .before .before .before .before .before .before .before .work-of .ensures)
     (c .before .before .before .before .before .before .set-register .ensures) (c .before .before .before .before .set-word .ensures) (c .before .touch-seen .ensures) (c .count-whole .ensures)
 

@@ -13,7 +13,7 @@ use Rattle.isa.specs.declared.opcode.Decoded.{Decoded}
 use Rattle.isa.specs.declared.opcode.Decoded.the-variants.{Known}
 use Rattle.isa.specs.Word.{decodeWord}
 use Rattle.isa.proofs.Words.{read-off}
-use Rattle.marks.specs.Marks.{marked}
+use Rattle.marks.specs.Owners.{hiddenFrom}
 use Rattle.guard.specs.Stops.{hiddenBy, hiddenJump}
 use Rattle.direct.specs.Work.{counts, halts}
 use Rattle.direct.specs.Lane.{Slots, slotsOf, slotWord, slotStep, slotNext, lastingOf, passesOn, goesOn, stretch}
@@ -23,13 +23,13 @@ use Rattle.direct.proofs.light.light_stretch.Statement.{statement}
 use Rattle.direct.proofs.light.light_stretch.Tie as tie
 
 abbrev Inv-loop : tie.InvT-loop
-Inv-loop breaks memory₀ registers₀ touched₀ seen₀ marks₀ register-marks₀ limit s₀ made₀ memory registers touched seen marks register-marks s made =
-    (stretch breaks (limit - made) made (slotsOf s memory registers touched seen marks register-marks) ≡ stretch breaks limit 0 (slotsOf s₀ memory₀ registers₀ touched₀ seen₀ marks₀ register-marks₀))
+Inv-loop clearance breaks memory₀ registers₀ touched₀ seen₀ marks₀ register-marks₀ limit s₀ made₀ memory registers touched seen marks register-marks s made =
+    (stretch (hiddenFrom clearance) breaks (limit - made) made (slotsOf s memory registers touched seen marks register-marks) ≡ stretch (hiddenFrom clearance) breaks limit 0 (slotsOf s₀ memory₀ registers₀ touched₀ seen₀ marks₀ register-marks₀))
     × (made ≤ limit)
     × (limit < 18446744073709551616)
 
 abbrev μ-loop : tie.MeasureT-loop
-μ-loop breaks memory₀ registers₀ touched₀ seen₀ marks₀ register-marks₀ limit s₀ made₀ memory registers touched seen marks register-marks s made = limit - made
+μ-loop clearance breaks memory₀ registers₀ touched₀ seen₀ marks₀ register-marks₀ limit s₀ made₀ memory registers touched seen marks register-marks s made = limit - made
 
 -- the slots of a turn
 abbrev slotsAt : tie.At-loop Inv-loop μ-loop → Slots
@@ -39,7 +39,7 @@ loop-holds : tie.Need-loop-holds Inv-loop μ-loop
 loop-holds c =
     let a = c .args in
     let z : a .limit .0 - 0 ≡ a .limit .0 = omega arith in
-    (ap (λ (n : ℕ). stretch (now (a .breaks)) n 0 (slotsOf (a .from) (now (a .memory)) (now (a .registers)) (now (a .touched)) (now (a .seen)) (now (a .marks)) (now (a .register-marks)))) z, zero-le, search needs)
+    (ap (λ (n : ℕ). stretch (hiddenFrom (a .clearance)) (now (a .breaks)) n 0 (slotsOf (a .from) (now (a .memory)) (now (a .registers)) (now (a .touched)) (now (a .seen)) (now (a .marks)) (now (a .register-marks)))) z, zero-le, search needs)
 
 cast-at : tie.Need-cast-at Inv-loop μ-loop
 cast-at c = search needs
@@ -63,8 +63,8 @@ returns : tie.Need-returns Inv-loop μ-loop
 returns c =
     let l = c .before .before .before .before .before .before .loop in
     let a = c .before .before .before .before .before .before .before .args in
-    let p : passesOn (now (a .breaks)) (ltb (l .made) (a .limit .0)) (slotsAt (c .before .before .before .before .before .before)) ≡ false = sym (c .before .may-go .ensures) ∙ not-true _ (c .if1 .taken) in
-    sym (stretch-stop (now (a .breaks)) (a .limit .0) (l .made) (slotsAt (c .before .before .before .before .before .before)) (rw p)) ∙ l .inv .0
+    let p : passesOn (hiddenFrom (a .clearance)) (now (a .breaks)) (ltb (l .made) (a .limit .0)) (slotsAt (c .before .before .before .before .before .before)) ≡ false = sym (c .before .may-go .ensures) ∙ not-true _ (c .if1 .taken) in
+    sym (stretch-stop (hiddenFrom (a .clearance)) (now (a .breaks)) (a .limit .0) (l .made) (slotsAt (c .before .before .before .before .before .before)) (rw p)) ∙ l .inv .0
 
 from-word-requires : tie.Need-from-word-requires Inv-loop μ-loop
 from-word-requires c κs = search needs
@@ -80,25 +80,28 @@ module _ (c : tie.After-hidden-by Inv-loop μ-loop) where
   abbrev at : tie.At-loop Inv-loop μ-loop
   at = c .before .before .before .before .before .before .before .before .before .before
 
+  abbrev hid : ℕ → Bool
+  hid = hiddenFrom (at .before .args .clearance)
+
   abbrev word : ℕ
   word = getD (at .loop .memory) (at .loop .s .pc) 0
 
   decodes : decodeWord word ≡ c .before .before .opcode .result
   decodes = read-off decodeWord word (c .before .before .before .from-word .ensures) (c .before .before .opcode .ensures)
 
-  passing : passesOn (now (at .before .args .breaks)) (ltb (at .loop .made) (at .before .args .limit .0)) (slotsAt at) ≡ true
+  passing : passesOn hid (now (at .before .args .breaks)) (ltb (at .loop .made) (at .before .args .limit .0)) (slotsAt at) ≡ true
   passing = sym (c .before .before .before .before .before .may-go .ensures) ∙ not-false _ (c .before .before .before .before .if1 .left)
 
-  goes : {h : Bool} → c .hidden-by .result ≡ h → goesOn (now (at .before .args .breaks)) (ltb (at .loop .made) (at .before .args .limit .0)) (slotsAt at) ≡ not h
+  goes : {h : Bool} → c .hidden-by .result ≡ h → goesOn hid (now (at .before .args .breaks)) (ltb (at .loop .made) (at .before .args .limit .0)) (slotsAt at) ≡ not h
   goes e =
-      let j : hiddenJump marked word (at .loop .register-marks) ≡ _ = ap (λ (d : Decoded). hiddenBy marked d word (at .loop .register-marks)) decodes ∙ sym (c .hidden-by .ensures) ∙ e in
+      let j : hiddenJump hid word (at .loop .register-marks) ≡ _ = ap (λ (d : Decoded). hiddenBy hid d word (at .loop .register-marks)) decodes ∙ sym (c .hidden-by .ensures) ∙ e in
       rw (passing, j)
 
 returns-2 : tie.Need-returns-2 Inv-loop μ-loop
 returns-2 c =
     let l = at (c .before) .loop in
     let a = at (c .before) .before .args in
-    sym (stretch-stop (now (a .breaks)) (a .limit .0) (l .made) (slotsAt (at (c .before))) (goes (c .before) (c .if2 .taken))) ∙ l .inv .0
+    sym (stretch-stop (hiddenFrom (a .clearance)) (now (a .breaks)) (a .limit .0) (l .made) (slotsAt (at (c .before))) (goes (c .before) (c .if2 .taken))) ∙ l .inv .0
 
 lasting-requires : tie.Need-lasting-requires Inv-loop μ-loop
 lasting-requires c κs = search needs
@@ -114,7 +117,7 @@ returns-3 c =
     let h = c .before .before .before .before in
     let l = at h .loop in
     let a = at h .before .args in
-    sym (stretch-end (now (a .breaks)) (a .limit .0) (l .made) (slotsAt (at h)) (goes h (c .before .before .before .if2 .left)) (ap counts (ap lastingOf (decodes h) ∙ sym (c .before .before .lasting .ensures) ∙ c .enum-told .given .1)))
+    sym (stretch-end (hiddenFrom (a .clearance)) (now (a .breaks)) (a .limit .0) (l .made) (slotsAt (at h)) (goes h (c .before .before .before .if2 .left)) (ap counts (ap lastingOf (decodes h) ∙ sym (c .before .before .lasting .ensures) ∙ c .enum-told .given .1)))
     ∙ l .inv .0
 
 light-known-requires : tie.Need-light-known-requires Inv-loop μ-loop
@@ -133,11 +136,11 @@ module _ (c : tie.After-light-known Inv-loop μ-loop) where
       let a = at tested .before .args in
       let s = slotsAt (at tested) in
       (l .made < a .limit .0)
-      × (stretch (now (a .breaks)) (a .limit .0 - l .made) (l .made) s ≡ stretch (now (a .breaks)) (a .limit .0 - (l .made + 1)) (l .made + 1) (slotStep (decodeWord (slotWord s)) (slotWord s) s)))
+      × (stretch (hiddenFrom (a .clearance)) (now (a .breaks)) (a .limit .0 - l .made) (l .made) s ≡ stretch (hiddenFrom (a .clearance)) (now (a .breaks)) (a .limit .0 - (l .made + 1)) (l .made + 1) (slotStep (hiddenFrom (a .clearance)) (decodeWord (slotWord s)) (slotWord s) s)))
   turn =
       let l = at tested .loop in
       let a = at tested .before .args in
-      stretch-turn (now (a .breaks)) (a .limit .0) (l .made) (slotsAt (at tested)) (goes tested (c .before .before .before .before .before .before .before .before .before .before .before .if2 .left)) (ap counts known)
+      stretch-turn (hiddenFrom (a .clearance)) (now (a .breaks)) (a .limit .0) (l .made) (slotsAt (at tested)) (goes tested (c .before .before .before .before .before .before .before .before .before .before .before .if2 .left)) (ap counts known)
 
 add-made : tie.Need-add-made Inv-loop μ-loop
 add-made c = let h = turn c .0 in omega (arith, h, at (tested c) .loop .inv .2)
@@ -154,8 +157,8 @@ loop-again c =
     let s = slotsAt (at (tested c)) in
     let o = c .before .before .before .before .before .before .before .before .decoded .given .0 .0 in
     let d = lasts-known (decodeWord w) o (known c) in
-    let e : slotNext o w s ≡ slotStep (decodeWord w) w s = next-is o w s (ap halts (sym d) ∙ lasts-counts (decodeWord w) (ap counts (known c))) ∙ ap (λ (x : Decoded). slotStep x w s) (sym d) in
-    (ap (stretch (now (a .breaks)) (a .limit .0 - (l .made + 1)) (l .made + 1)) (c .light-known .ensures ∙ e) ∙ sym (h .1) ∙ l .inv .0, omega (arith, h .0), l .inv .2)
+    let e : slotNext (hiddenFrom (a .clearance)) o w s ≡ slotStep (hiddenFrom (a .clearance)) (decodeWord w) w s = next-is (hiddenFrom (a .clearance)) o w s (ap halts (sym d) ∙ lasts-counts (decodeWord w) (ap counts (known c))) ∙ ap (λ (x : Decoded). slotStep (hiddenFrom (a .clearance)) x w s) (sym d) in
+    (ap (stretch (hiddenFrom (a .clearance)) (now (a .breaks)) (a .limit .0 - (l .made + 1)) (l .made + 1)) (c .light-known .ensures ∙ e) ∙ sym (h .1) ∙ l .inv .0, omega (arith, h .0), l .inv .2)
 
 pub light-stretch-spec : {M : Type 1} → statement M
 light-stretch-spec =

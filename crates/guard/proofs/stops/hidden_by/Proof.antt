@@ -21,27 +21,27 @@ returns-2 c =
     let b = c .before .before in
     rw (sym (b .is-jump .ensures) ∙ not-false _ (c .before .if1 .left), eq-eqb (digitX (b .before .args .word)) 0 (c .if2 .taken))
 
-element-copy-out-hides : tie.Need-element-copy-out-hides
-element-copy-out-hides c = search needs
+element-copy-out-is-hidden : tie.Need-element-copy-out-is-hidden
+element-copy-out-is-hidden c = search needs
 
-hides-requires : tie.Need-hides-requires
-hides-requires c κs = search needs
+is-hidden-requires : tie.Need-is-hidden-requires
+is-hidden-requires c κs = search needs
 
 returns-3 : tie.Need-returns-3
 returns-3 c =
     let b = c .before .before .before .before .before in
-    rw (sym (b .is-jump .ensures) ∙ not-false _ (c .before .before .before .before .if1 .left), ne-eqb (digitX (b .before .args .word)) 0 (c .before .before .before .if2 .left), sym (c .before .hides .ensures) ∙ c .if3 .taken)
+    rw (sym (b .is-jump .ensures) ∙ not-false _ (c .before .before .before .before .if1 .left), ne-eqb (digitX (b .before .args .word)) 0 (c .before .before .before .if2 .left), sym (c .before .is-hidden .ensures) ∙ c .if3 .taken)
 
-element-copy-out-hides-2 : tie.Need-element-copy-out-hides-2
-element-copy-out-hides-2 c = search needs
+element-copy-out-is-hidden-2 : tie.Need-element-copy-out-is-hidden-2
+element-copy-out-is-hidden-2 c = search needs
 
-hides-requires-2 : tie.Need-hides-requires-2
-hides-requires-2 c κs = search needs
+is-hidden-requires-2 : tie.Need-is-hidden-requires-2
+is-hidden-requires-2 c κs = search needs
 
 returns-4 : tie.Need-returns-4
 returns-4 c =
     let b = c .before .before .before .before .before .before .before in
-    rw (sym (b .is-jump .ensures) ∙ not-false _ (c .before .before .before .before .before .before .if1 .left), ne-eqb (digitX (b .before .args .word)) 0 (c .before .before .before .before .before .if2 .left), sym (c .before .before .before .hides .ensures) ∙ c .before .before .if3 .left) (c .hides2 .ensures)
+    rw (sym (b .is-jump .ensures) ∙ not-false _ (c .before .before .before .before .before .before .if1 .left), ne-eqb (digitX (b .before .args .word)) 0 (c .before .before .before .before .before .if2 .left), sym (c .before .before .before .is-hidden .ensures) ∙ c .before .before .if3 .left) (c .is-hidden2 .ensures)
 
 pub hidden-by-spec : {M : Type 1} → statement M
 hidden-by-spec =
@@ -51,9 +51,9 @@ hidden-by-spec =
     returns
     cast-x
     returns-2
-    element-copy-out-hides
-    hides-requires
+    element-copy-out-is-hidden
+    is-hidden-requires
     returns-3
-    element-copy-out-hides-2
-    hides-requires-2
+    element-copy-out-is-hidden-2
+    is-hidden-requires-2
     returns-4)

@@ -5,7 +5,7 @@ use denote.Ref.{now}
 use Rattle.isa.specs.declared.opcode.Decoded.{Decoded}
 use Rattle.isa.specs.Word.{decodeWord}
 use Rattle.isa.proofs.Words.{read-off}
-use Rattle.marks.specs.Marks.{marked}
+use Rattle.marks.specs.Owners.{hiddenFrom}
 use Rattle.guard.specs.Stops.{hiddenBy}
 use borrow.Author.Needs.{needs}
 use Rattle.guard.proofs.stops.hidden_jump.Statement.{statement}
@@ -24,7 +24,7 @@ returns : tie.Need-returns
 returns c =
     let o = c .before in
     let a = o .before .before .args in
-    c .hidden-by .ensures ∙ ap (λ (d : Decoded). hiddenBy marked d (a .word) (now (a .registers))) (sym (read-off decodeWord (a .word) (o .before .from-word .ensures) (o .opcode .ensures)))
+    c .hidden-by .ensures ∙ ap (λ (d : Decoded). hiddenBy (hiddenFrom (a .clearance)) d (a .word) (now (a .registers))) (sym (read-off decodeWord (a .word) (o .before .from-word .ensures) (o .opcode .ensures)))
 
 pub hidden-jump-spec : {M : Type 1} → statement M
 hidden-jump-spec = tie.close (tie.spec from-word-requires opcode-requires hidden-by-requires returns)

@@ -14,8 +14,8 @@ halted-stop-requires c κs = search needs
 at-break-requires : tie.Need-at-break-requires
 at-break-requires c κs = search needs
 
-hides-requires : tie.Need-hides-requires
-hides-requires c κs = search needs
+is-hidden-requires : tie.Need-is-hidden-requires
+is-hidden-requires c κs = search needs
 
 hidden-jump-requires : tie.Need-hidden-jump-requires
 hidden-jump-requires c κs = search needs
@@ -30,13 +30,13 @@ returns-3 : tie.Need-returns-3
 returns-3 c = let a = c .before .before .before .before .before .before .before .args in rw (c .before .before .before .before .before .if1 .left, sym (c .before .before .before .before .at-break .ensures) ∙ c .before .before .before .if2 .left, eq-eqb (a .budget .0 - a .begun .0) 0 (omega (arith, c .if3 .taken)))
 
 returns-4 : tie.Need-returns-4
-returns-4 c = let a = c .before .before .before .before .before .before .before .before .before .args in rw (c .before .before .before .before .before .before .before .if1 .left, sym (c .before .before .before .before .before .before .at-break .ensures) ∙ c .before .before .before .before .before .if2 .left, ne-eqb (a .budget .0 - a .begun .0) 0 (λ z. omega (arith, z, c .before .before .if3 .left)), sym (c .before .hides .ensures) ∙ c .if4 .taken)
+returns-4 c = let a = c .before .before .before .before .before .before .before .before .before .args in rw (c .before .before .before .before .before .before .before .if1 .left, sym (c .before .before .before .before .before .before .at-break .ensures) ∙ c .before .before .before .before .before .if2 .left, ne-eqb (a .budget .0 - a .begun .0) 0 (λ z. omega (arith, z, c .before .before .if3 .left)), sym (c .before .is-hidden .ensures) ∙ c .if4 .taken)
 
 returns-5 : tie.Need-returns-5
-returns-5 c = let a = c .before .before .before .before .before .before .before .before .before .before .before .args in rw (c .before .before .before .before .before .before .before .before .before .if1 .left, sym (c .before .before .before .before .before .before .before .before .at-break .ensures) ∙ c .before .before .before .before .before .before .before .if2 .left, ne-eqb (a .budget .0 - a .begun .0) 0 (λ z. omega (arith, z, c .before .before .before .before .if3 .left)), sym (c .before .before .before .hides .ensures) ∙ c .before .before .if4 .left, sym (c .before .hidden-jump .ensures) ∙ c .if5 .taken)
+returns-5 c = let a = c .before .before .before .before .before .before .before .before .before .before .before .args in rw (c .before .before .before .before .before .before .before .before .before .if1 .left, sym (c .before .before .before .before .before .before .before .before .at-break .ensures) ∙ c .before .before .before .before .before .before .before .if2 .left, ne-eqb (a .budget .0 - a .begun .0) 0 (λ z. omega (arith, z, c .before .before .before .before .if3 .left)), sym (c .before .before .before .is-hidden .ensures) ∙ c .before .before .if4 .left, sym (c .before .hidden-jump .ensures) ∙ c .if5 .taken)
 
 returns-6 : tie.Need-returns-6
-returns-6 c = let a = c .before .before .before .before .before .before .before .before .before .before .before .args in rw (c .before .before .before .before .before .before .before .before .before .if1 .left, sym (c .before .before .before .before .before .before .before .before .at-break .ensures) ∙ c .before .before .before .before .before .before .before .if2 .left, ne-eqb (a .budget .0 - a .begun .0) 0 (λ z. omega (arith, z, c .before .before .before .before .if3 .left)), sym (c .before .before .before .hides .ensures) ∙ c .before .before .if4 .left, sym (c .before .hidden-jump .ensures) ∙ c .if5 .left)
+returns-6 c = let a = c .before .before .before .before .before .before .before .before .before .before .before .args in rw (c .before .before .before .before .before .before .before .before .before .if1 .left, sym (c .before .before .before .before .before .before .before .before .at-break .ensures) ∙ c .before .before .before .before .before .before .before .if2 .left, ne-eqb (a .budget .0 - a .begun .0) 0 (λ z. omega (arith, z, c .before .before .before .before .if3 .left)), sym (c .before .before .before .is-hidden .ensures) ∙ c .before .before .if4 .left, sym (c .before .hidden-jump .ensures) ∙ c .if5 .left)
 
 pub judge-spec : {M : Type 1} → statement M
 judge-spec =
@@ -47,7 +47,7 @@ judge-spec =
     at-break-requires
     returns-2
     returns-3
-    hides-requires
+    is-hidden-requires
     returns-4
     hidden-jump-requires
     returns-5

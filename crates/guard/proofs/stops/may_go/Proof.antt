@@ -16,12 +16,12 @@ returns-2 : tie.Need-returns-2
 unfolding passes
 returns-2 c = let m : c .before .before .args .more ≡ true = not-false _ (c .before .if1 .left) in rw (m, ne-eqb _ 0 (c .if2 .taken))
 
-hides-requires : tie.Need-hides-requires
-hides-requires c κs = search needs
+is-hidden-requires : tie.Need-is-hidden-requires
+is-hidden-requires c κs = search needs
 
 returns-3 : tie.Need-returns-3
 unfolding passes
-returns-3 c = let m : c .before .before .before .args .more ≡ true = not-false _ (c .before .before .if1 .left) in rw (m, eq-eqb _ 0 (c .before .if2 .left)) (ap not (c .hides .ensures))
+returns-3 c = let m : c .before .before .before .args .more ≡ true = not-false _ (c .before .before .if1 .left) in rw (m, eq-eqb _ 0 (c .before .if2 .left)) (ap not (c .is-hidden .ensures))
 
 pub may-go-spec : {M : Type 1} → statement M
-may-go-spec = tie.close (tie.spec returns returns-2 hides-requires returns-3)
+may-go-spec = tie.close (tie.spec returns returns-2 is-hidden-requires returns-3)

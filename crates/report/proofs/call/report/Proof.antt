@@ -4,7 +4,7 @@ use mathlib.Core.Path.{_≡_, sym, ap, _∙_}
 use denote.Ref.{now}
 use lib.ListN.{length}
 use Rattle.isa.specs.Sizes.{memoryWords, registerCount}
-use Rattle.marks.specs.Marks.{marked}
+use Rattle.marks.specs.Owners.{hiddenFrom}
 use Rattle.marks.specs.Total.{hiddenCount}
 use Rattle.vm.specs.Guard.{GuardedAnswer, guardedAnswerOf, servedAnswer}
 use Rattle.vm.proofs.GuardedStarts.{answer-served, answer-refusal}
@@ -17,7 +17,7 @@ use Rattle.report.proofs.call.report.Statement.{statement}
 use Rattle.report.proofs.call.report.Tie as tie
 
 abbrev inputOf : tie.Start → Input
-inputOf s = let a = s .args in inputFrom (now (a .image)) (now (a .marks)) (a .budget .0) (now (a .breakpoints))
+inputOf s = let a = s .args in inputFrom (now (a .image)) (now (a .marks)) (a .budget .0) (now (a .breakpoints)) (a .clearance)
 
 sixteen : (c : tie.After-guarded-run) → length (c .guarded-run .result .marks .registers) ≡ registerCount
 sixteen c = search needs
@@ -68,7 +68,7 @@ write-report-requires c κs =
       breaks = A .few;
       registers = sixteen g;
       memory = many g;
-      total = ap (λ (a : GuardedAnswer). a .hiddenTotal) e ∙ ap (λ (a : GuardedAnswer). hiddenCount marked (a .guarded .marks .memory)) (sym e);
+      total = ap (λ (a : GuardedAnswer). a .hiddenTotal) e ∙ ap (λ (a : GuardedAnswer). hiddenCount (hiddenFrom (s .args .clearance)) (a .guarded .marks .memory)) (sym e);
       machine = reportable (g .guarded-run .result .machine) (g .guarded-run .ensures .1 .1) i (ap (λ (a : GuardedAnswer). a .guarded .machine) e);
     }
 

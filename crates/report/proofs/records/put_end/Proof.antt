@@ -5,7 +5,8 @@ use mathlib.Core.List.{[], _∷_}
 use native.Mathlib.Omega.{arith}
 use Prim.Native.Nat.{_+_}
 use Rattle.secret.specs.Widths.{kindWidth, stopWidth, controlLength, countsLength}
-use Rattle.marks.specs.Marks.{marked, shown}
+use Rattle.marks.specs.Owners.{hiddenFrom}
+use Rattle.marks.specs.Marks.{shown}
 use Rattle.encoding.proofs.Written.{overs-eq}
 use Rattle.control.specs.Codes.{faultBytes, faultWidth}
 use Rattle.secret.specs.Report.{controlBytes, countBytes, endRecord}
@@ -53,7 +54,7 @@ returns c =
     let s = v .before .before .before in
     let a = s .args in
     let k = a .state .control in
-    let d = shown marked (a .mark) (k .mdr) in
+    let d = shown (hiddenFrom (a .clearance)) (a .mark) (k .mdr) in
     rw (p .put-fault .ensures, q .put-counts .ensures, r .put-control .ensures, v .shown-value .ensures, t .put-byte .ensures)
     (overs-eq (a .out .now) (a .at)
     ((kindWidth + stopWidth, 8 ∷ a .stop ∷ []) ∷ (controlLength, controlBytes (k .pc) (k .ir) (k .mar) (a .mark) d) ∷ (countsLength, countBytes (a .counters)) ∷ (faultWidth, faultBytes (a .state .fault)) ∷ [])

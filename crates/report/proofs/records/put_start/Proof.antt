@@ -2,7 +2,7 @@
 -- Assumes nothing.
 use mathlib.Core.List.{[], _∷_}
 use native.Mathlib.Omega.{arith}
-use Rattle.marks.specs.Marks.{marked}
+use Rattle.marks.specs.Owners.{hiddenFrom}
 use Rattle.encoding.proofs.Written.{overs-eq}
 use Rattle.encoding.proofs.Numbers.{length-bigEndian}
 use Rattle.isa.specs.Sizes.{textWidth}
@@ -35,8 +35,8 @@ returns c =
     let a = s .args in
     rw (p .put-text .ensures, q .put-value .ensures)
     (overs-eq (a .out .now) (a .at)
-    ((wordLength, valueRecord marked 2 (addressBytes (a .address)) (a .mark) (a .word)) ∷ (textWidth, shownText marked (a .mark) (a .word)) ∷ [])
-    (length-value marked 2 (addressBytes (a .address)) (a .mark) (a .word) (length-bigEndian addressWidth (a .address)), (length-shown marked (a .mark) (a .word), tt))
+    ((wordLength, valueRecord (hiddenFrom (a .clearance)) 2 (addressBytes (a .address)) (a .mark) (a .word)) ∷ (textWidth, shownText (hiddenFrom (a .clearance)) (a .mark) (a .word)) ∷ [])
+    (length-value (hiddenFrom (a .clearance)) 2 (addressBytes (a .address)) (a .mark) (a .word) (length-bigEndian addressWidth (a .address)), (length-shown (hiddenFrom (a .clearance)) (a .mark) (a .word), tt))
     (omega (arith, s .pre)))
 
 pub put-start-spec : {M : Type 1} → statement M

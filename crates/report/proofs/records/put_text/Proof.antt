@@ -2,13 +2,14 @@
 -- Assumes nothing.
 use mathlib.Core.Path.{sym, _∙_}
 use borrow.Author.Tests.{not-true, not-false}
-use Rattle.secret.proofs.Shows.{text-open, text-marked}
+use Rattle.marks.specs.Owners.{hiddenFrom}
+use Rattle.secret.proofs.Shows.{text-open, text-hidden}
 use borrow.Author.Needs.{needs}
 use Rattle.report.proofs.records.put_text.Statement.{statement}
 use Rattle.report.proofs.records.put_text.Tie as tie
 
-hides-requires : tie.Need-hides-requires
-hides-requires c κs = search needs
+is-hidden-requires : tie.Need-is-hidden-requires
+is-hidden-requires c κs = search needs
 
 disassemble-into-requires : tie.Need-disassemble-into-requires
 disassemble-into-requires c κs = search needs
@@ -21,7 +22,7 @@ returns c =
     let p = c .before .before in
     let h = p .before .before .before in
     let s = h .before .before in
-    text-open (s .args .out .now) (s .args .at) (s .args .mark) (s .args .word) (s .pre) (sym (h .hides .ensures) ∙ not-true _ (p .before .before .if1 .taken)) (p .disassemble-into .ensures .1)
+    text-open (hiddenFrom (s .args .clearance)) (s .args .out .now) (s .args .at) (s .args .mark) (s .args .word) (s .pre) (sym (h .is-hidden .ensures) ∙ not-true _ (p .before .before .if1 .taken)) (p .disassemble-into .ensures .1)
 
 slice-aggregate-put-bytes : tie.Need-slice-aggregate-put-bytes
 slice-aggregate-put-bytes c = search needs
@@ -37,13 +38,13 @@ returns-2 c =
     let p = c .before .before in
     let h = p .before .before .before .before in
     let s = h .before .before in
-    text-marked (s .args .out .now) (s .args .at) (s .args .mark) (s .args .word) (s .pre) (sym (h .hides .ensures) ∙ not-false _ (p .before .before .before .if1 .left)) (p .put-bytes .ensures)
+    text-hidden (hiddenFrom (s .args .clearance)) (s .args .out .now) (s .args .at) (s .args .mark) (s .args .word) (s .pre) (sym (h .is-hidden .ensures) ∙ not-false _ (p .before .before .before .if1 .left)) (p .put-bytes .ensures)
 
 pub put-text-spec : {M : Type 1} → statement M
 put-text-spec =
     tie.close
     (tie.spec
-    hides-requires
+    is-hidden-requires
     disassemble-into-requires
     same-length
     returns

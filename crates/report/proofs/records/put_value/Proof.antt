@@ -2,6 +2,7 @@
 -- Assumes nothing.
 use mathlib.Core.Path.{refl, _∙_}
 use lib.ListN.{length-set}
+use Rattle.marks.specs.Owners.{hiddenFrom}
 use Rattle.secret.proofs.Shows.{value-put}
 use borrow.Author.Needs.{needs}
 use Rattle.report.proofs.records.put_value.Statement.{statement}
@@ -10,11 +11,11 @@ use Rattle.report.proofs.records.put_value.Tie as tie
 shown-value-requires : tie.Need-shown-value-requires
 shown-value-requires c κs = search needs
 
-cast-t13 : tie.Need-cast-t13
-cast-t13 c = search needs
+cast-t14 : tie.Need-cast-t14
+cast-t14 c = search needs
 
-cast-t15 : tie.Need-cast-t15
-cast-t15 c = search needs
+cast-t16 : tie.Need-cast-t16
+cast-t16 c = search needs
 
 add-second : tie.Need-add-second
 add-second c = search needs
@@ -49,15 +50,15 @@ returns c =
     let s = v .before .before in
     let a = s .args in
     rw (p .put-bytes .ensures, q .put-number .ensures)
-    (value-put (a .out .now) (a .at) (a .kind) (a .width) (a .index) (a .mark) (a .value) (s .pre) (v .shown-value .ensures) refl)
+    (value-put (hiddenFrom (a .clearance)) (a .out .now) (a .at) (a .kind) (a .width) (a .index) (a .mark) (a .value) (s .pre) (v .shown-value .ensures) refl)
 
 pub put-value-spec : {M : Type 1} → statement M
 put-value-spec =
     tie.close
     (tie.spec
     shown-value-requires
-    cast-t13
-    cast-t15
+    cast-t14
+    cast-t16
     add-second
     slice-write-out
     put-number-requires

@@ -10,7 +10,8 @@ use denote.Ref.{now}
 use Rattle.encoding.specs.Bytes.{over, eachFrom}
 use Rattle.encoding.proofs.Written.{each-turn, each-done}
 use Rattle.vm.specs.Calls.{imageWords}
-use Rattle.marks.specs.Marks.{marked}
+use Rattle.marks.specs.Owners.{hiddenFrom}
+use Rattle.secret.specs.Widths.{headLength, startLength}
 use Rattle.secret.specs.Report.{startRecord, startRecords}
 use Rattle.secret.proofs.Accepts.{words-at}
 use Rattle.secret.proofs.Shows.{length-start}
@@ -18,15 +19,15 @@ use borrow.Author.Needs.{needs}
 use Rattle.report.proofs.rows.put_starts.Statement.{statement}
 use Rattle.report.proofs.rows.put_starts.Tie as tie
 
-abbrev piece : List ℕ → List ℕ → ℕ → List ℕ
-piece image marks a = startRecord marked a (getD marks a 0) (getD (imageWords image) a 0)
+abbrev piece : ℕ → List ℕ → List ℕ → ℕ → List ℕ
+piece clearance image marks a = startRecord (hiddenFrom clearance) a (getD marks a 0) (getD (imageWords image) a 0)
 
 abbrev Inv-loop : tie.InvT-loop
-Inv-loop out₀ image marks i₀ out i =
-    (i ≤ 256) × (length out ≡ length out₀) × (over out (13 + 37 * i) (eachFrom (piece image marks) i (256 - i)) ≡ over out₀ 13 (eachFrom (piece image marks) 0 256))
+Inv-loop out₀ image marks clearance i₀ out i =
+    (i ≤ 256) × (length out ≡ length out₀) × (over out (headLength + startLength * i) (eachFrom (piece clearance image marks) i (256 - i)) ≡ over out₀ headLength (eachFrom (piece clearance image marks) 0 256))
 
 abbrev μ-loop : tie.MeasureT-loop
-μ-loop out₀ image marks i₀ out i = 256 - i
+μ-loop out₀ image marks clearance i₀ out i = 256 - i
 
 loop-holds : tie.Need-loop-holds Inv-loop μ-loop
 loop-holds c = (search needs, refl, rw (add-zero, sub-zero))
@@ -64,7 +65,7 @@ loop-again c =
       omega arith,
       p .put-start .kept .0 ∙ l .inv .1,
       rw (p .put-start .ensures, w .word-at .ensures, ← words-at v (l .i) (omega arith))
-          (each-turn 37 (piece v m) (l .out) 13 (l .i) 256 (length-start marked (l .i) (getD m (l .i) 0) (getD (imageWords v) (l .i) 0)) (omega arith) (omega arith) ∙ l .inv .2),
+          (each-turn startLength (piece (s .clearance) v m) (l .out) headLength (l .i) 256 (length-start (hiddenFrom (s .clearance)) (l .i) (getD m (l .i) 0) (getD (imageWords v) (l .i) 0)) (omega arith) (omega arith) ∙ l .inv .2),
     )
 
 same-length : tie.Need-same-length Inv-loop μ-loop
@@ -75,7 +76,7 @@ unfolding startRecords
 returns c =
     let l = c .before .loop in
     let s = c .before .before .before .before .before .args in
-    sym (each-done (piece (now (s .image)) (now (s .marks))) (l .out) (13 + 37 * l .i) (l .i) 256 (omega arith)) ∙ l .inv .2
+    sym (each-done (piece (s .clearance) (now (s .image)) (now (s .marks))) (l .out) (headLength + startLength * l .i) (l .i) 256 (omega arith)) ∙ l .inv .2
 
 pub put-starts-spec : {M : Type 1} → statement M
 put-starts-spec =

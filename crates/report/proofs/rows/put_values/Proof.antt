@@ -9,7 +9,7 @@ use lib.ListN.{length, getD}
 use denote.Ref.{now}
 use Rattle.encoding.specs.Bytes.{over, bigEndian, eachFrom}
 use Rattle.encoding.proofs.Written.{each-turn, each-done}
-use Rattle.marks.specs.Marks.{marked}
+use Rattle.marks.specs.Owners.{hiddenFrom}
 use Rattle.encoding.proofs.Numbers.{length-bigEndian}
 use Rattle.secret.specs.Widths.{valueLength}
 use Rattle.secret.specs.Report.{valueRecord, valueRecords}
@@ -18,20 +18,20 @@ use borrow.Author.Needs.{needs}
 use Rattle.report.proofs.rows.put_values.Statement.{statement}
 use Rattle.report.proofs.rows.put_values.Tie as tie
 
-abbrev piece : ℕ → ℕ → List ℕ → List ℕ → ℕ → List ℕ
-piece kind width values marks i = valueRecord marked kind (bigEndian width i) (getD marks i 0) (getD values i 0)
+abbrev piece : ℕ → ℕ → ℕ → List ℕ → List ℕ → ℕ → List ℕ
+piece clearance kind width values marks i = valueRecord (hiddenFrom clearance) kind (bigEndian width i) (getD marks i 0) (getD values i 0)
 
 -- so much room is left before turn i
 room : (w at len : ℕ) {i n : ℕ} → i < n → at + w * n ≤ len → at + w * i + w ≤ len
 room w at len {i} h k = let m = mul-le-mul-left w h in omega arith
 
 abbrev Inv-loop : tie.InvT-loop
-Inv-loop out₀ at kind width values marks size i₀ out i =
+Inv-loop out₀ at clearance kind width values marks size i₀ out i =
     (i ≤ length values) × (length out ≡ length out₀)
-    × (over out (at + valueLength width * i) (eachFrom (piece kind width values marks) i (length values - i)) ≡ over out₀ at (eachFrom (piece kind width values marks) 0 (length values)))
+    × (over out (at + valueLength width * i) (eachFrom (piece clearance kind width values marks) i (length values - i)) ≡ over out₀ at (eachFrom (piece clearance kind width values marks) 0 (length values)))
 
 abbrev μ-loop : tie.MeasureT-loop
-μ-loop out₀ at kind width values marks size i₀ out i = length values - i
+μ-loop out₀ at clearance kind width values marks size i₀ out i = length values - i
 
 long : (c : tie.Start Inv-loop μ-loop) → length (now (c .args .out)) < 18446744073709551616
 long c = search needs
@@ -96,8 +96,8 @@ loop-again c =
     let m = now (s .marks) in (
       omega arith,
       p .put-value .kept .0 ∙ l .inv .1,
-      rw (p .put-value .ensures) (each-turn (valueLength (s .width)) (piece (s .kind) (s .width) v m) (l .out) (s .at) (l .i) (length v)
-          (length-value marked (s .kind) (bigEndian (s .width) (l .i)) (getD m (l .i) 0) (getD v (l .i) 0) (length-bigEndian (s .width) (l .i))) (omega arith) (omega arith) ∙ l .inv .2),
+      rw (p .put-value .ensures) (each-turn (valueLength (s .width)) (piece (s .clearance) (s .kind) (s .width) v m) (l .out) (s .at) (l .i) (length v)
+          (length-value (hiddenFrom (s .clearance)) (s .kind) (bigEndian (s .width) (l .i)) (getD m (l .i) 0) (getD v (l .i) 0) (length-bigEndian (s .width) (l .i))) (omega arith) (omega arith) ∙ l .inv .2),
     )
 
 same-length : tie.Need-same-length Inv-loop μ-loop
@@ -109,7 +109,7 @@ returns c =
     let l = c .before .loop in
     let s = c .before .before .before .before .before .args in
     let v = now (s .values) in
-    sym (each-done (piece (s .kind) (s .width) v (now (s .marks))) (l .out) (s .at + valueLength (s .width) * l .i) (l .i) (length v) (omega arith)) ∙ l .inv .2
+    sym (each-done (piece (s .clearance) (s .kind) (s .width) v (now (s .marks))) (l .out) (s .at + valueLength (s .width) * l .i) (l .i) (length v) (omega arith)) ∙ l .inv .2
 
 pub put-values-spec : {M : Type 1} → statement M
 put-values-spec =

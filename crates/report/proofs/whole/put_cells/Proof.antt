@@ -3,7 +3,7 @@
 use mathlib.Core.List.{[], _∷_}
 use native.Mathlib.Omega.{arith}
 use denote.Ref.{now}
-use Rattle.marks.specs.Marks.{marked}
+use Rattle.marks.specs.Owners.{hiddenFrom}
 use Rattle.encoding.proofs.Written.{overs-eq}
 use Rattle.isa.specs.Sizes.{memoryWords, registerCount}
 use Rattle.control.specs.Address.{addressWidth}
@@ -38,8 +38,8 @@ returns c =
     let l = now (a .memory-marks) in
     rw (p .put-values2 .ensures, q .put-values .ensures, s .pre .1, s .pre .3)
     (overs-eq (now (a .out)) (a .at)
-    ((registersLength, valueRecords marked 5 indexBytes registerCount r k) ∷ (wordsLength, valueRecords marked 6 addressBytes memoryWords m l) ∷ [])
-    (length-values marked 5 indexWidth registerCount r k, (length-values marked 6 addressWidth memoryWords m l, tt))
+    ((registersLength, valueRecords (hiddenFrom (a .clearance)) 5 indexBytes registerCount r k) ∷ (wordsLength, valueRecords (hiddenFrom (a .clearance)) 6 addressBytes memoryWords m l) ∷ [])
+    (length-values (hiddenFrom (a .clearance)) 5 indexWidth registerCount r k, (length-values (hiddenFrom (a .clearance)) 6 addressWidth memoryWords m l, tt))
     (omega (arith, s .pre)))
 
 pub put-cells-spec : {M : Type 1} → statement M

@@ -6,7 +6,7 @@ use native.Mathlib.Omega.{arith}
 use denote.Ref.{now}
 use lib.ListN.{length}
 use Rattle.vm.specs.Calls.{imageWords}
-use Rattle.marks.specs.Marks.{marked}
+use Rattle.marks.specs.Owners.{hiddenFrom}
 use Rattle.encoding.proofs.Written.{overs-eq}
 use Rattle.secret.specs.Widths.{headLength, breakLength, startsLength}
 use Rattle.secret.specs.Report.{headRecord, startRecords, breakRecord, eachRecord}
@@ -39,8 +39,8 @@ returns c =
     let breaks = now (a .breakpoints) in
     rw (p .put-breaks .ensures, q .put-starts .ensures, r .put-head .ensures)
     (overs-eq (now (a .out)) 0
-    ((headLength, headRecord (length image) (a .budget .0) (length breaks)) ∷ (startsLength, startRecords marked (imageWords image) (now (a .marks))) ∷ (breakLength * length breaks, eachRecord breakRecord breaks) ∷ [])
-    (length-head (length image) (a .budget .0) (length breaks), (length-starts marked (imageWords image) (now (a .marks)), (length-breaks breaks, tt)))
+    ((headLength, headRecord (length image) (a .budget .0) (length breaks) (a .clearance)) ∷ (startsLength, startRecords (hiddenFrom (a .clearance)) (imageWords image) (now (a .marks))) ∷ (breakLength * length breaks, eachRecord breakRecord breaks) ∷ [])
+    (length-head (length image) (a .budget .0) (length breaks) (a .clearance), (length-starts (hiddenFrom (a .clearance)) (imageWords image) (now (a .marks)), (length-breaks breaks, tt)))
     (omega (arith, s .pre)))
 
 pub put-input-spec : {M : Type 1} → statement M

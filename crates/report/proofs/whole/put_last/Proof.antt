@@ -5,7 +5,7 @@ use mathlib.Core.List.{[], _∷_}
 use native.Mathlib.Omega.{arith}
 use denote.Ref.{now}
 use lib.ListN.{length}
-use Rattle.marks.specs.Marks.{marked}
+use Rattle.marks.specs.Owners.{hiddenFrom}
 use Rattle.encoding.proofs.Written.{overs-eq}
 use Rattle.secret.specs.Widths.{touchedLength, endLength, hiddenLength}
 use Rattle.secret.specs.Report.{touchedRecord, eachRecord, endRecord, hiddenRecord}
@@ -46,8 +46,8 @@ returns c =
     let t = now (a .touched) in
     rw (p .put-numbered .ensures, q .put-end .ensures, r .put-touches .ensures)
     (overs-eq (now (a .out)) (a .at)
-    ((touchedLength * length t, eachRecord touchedRecord t) ∷ (endLength, endRecord marked (a .stop) (a .state) (a .counters) (a .mark)) ∷ (hiddenLength, hiddenRecord (a .hidden-total)) ∷ [])
-    (length-touches t, (length-end marked (a .stop) (a .state) (a .counters) (a .mark), (length-hidden (a .hidden-total), tt)))
+    ((touchedLength * length t, eachRecord touchedRecord t) ∷ (endLength, endRecord (hiddenFrom (a .clearance)) (a .stop) (a .state) (a .counters) (a .mark)) ∷ (hiddenLength, hiddenRecord (a .hidden-total)) ∷ [])
+    (length-touches t, (length-end (hiddenFrom (a .clearance)) (a .stop) (a .state) (a .counters) (a .mark), (length-hidden (a .hidden-total), tt)))
     (omega (arith, s .pre)))
 
 pub put-last-spec : {M : Type 1} → statement M

@@ -8,6 +8,7 @@ use lib.ListN.{length, take}
 use lib.Seq.{length-take-le}
 use Rattle.isa.specs.Sizes.{memoryWords, registerCount}
 use Rattle.trace.specs.Trace.{columnsLength, traceLimit}
+use Rattle.marks.specs.Owners.{hiddenFrom}
 use Rattle.secret.proofs.Traces.{run-over}
 use borrow.Author.Needs.{needs}
 use Rattle.report.proofs.whole.put_run.Statement.{statement}
@@ -110,7 +111,7 @@ returns c =
     let a = s .args in (
       omega arith,
       rw (l .put-last .ensures, q .put-cells .ensures, p .put-trace .ensures, s .pre .4)
-          (run-over (a .machine) (s .pre .3) (a .stop) (a .mark) (now (a .register-marks)) (now (a .memory-marks)) (now (a .out)) (a .at) (columns s) (touched s) (s .pre .0)),
+          (run-over (hiddenFrom (a .clearance)) (a .machine) (s .pre .3) (a .stop) (a .mark) (now (a .register-marks)) (now (a .memory-marks)) (now (a .out)) (a .at) (columns s) (touched s) (s .pre .0)),
     )
 
 pub put-run-spec : {M : Type 1} → statement M

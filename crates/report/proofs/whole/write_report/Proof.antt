@@ -42,7 +42,7 @@ returns c =
     let q = p .before .before .before .before in
     let s = q .before .before .before .before .before .before .before .before .before in
     let a = s .args in
-    whole-served (inputFrom (now (a .image)) (now (a .marks)) (a .budget .0) (now (a .breakpoints))) (a .stop) (a .machine) (s .pre .machine) (now (a .register-marks)) (now (a .memory-marks)) (a .mark) (now (a .out))
+    whole-served (inputFrom (now (a .image)) (now (a .marks)) (a .budget .0) (now (a .breakpoints)) (a .clearance)) (a .stop) (a .machine) (s .pre .machine) (now (a .register-marks)) (now (a .memory-marks)) (a .mark) (now (a .out))
     (columns s) (touched s) (omega (arith, s .pre .room, s .pre .breaks)) (p .put-run .ensures .0)
     (p .put-run .ensures .1 ∙ rw (q .put-input .ensures, q .before .before .number .ensures))
 

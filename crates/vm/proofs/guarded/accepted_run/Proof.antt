@@ -3,7 +3,7 @@
 use native.Mathlib.Omega.{arith}
 use mathlib.Core.Path.{refl, ap, _∙_}
 use denote.Ref.{now}
-use Rattle.marks.specs.Marks.{marked}
+use Rattle.marks.specs.Owners.{hiddenFrom}
 use Rattle.marks.specs.Total.{hiddenCount}
 use Rattle.marks.proofs.Totals.{count-few}
 use Rattle.guard.specs.Stops.{stopNumber}
@@ -32,13 +32,13 @@ count-hidden-requires : tie.Need-count-hidden-requires
 count-hidden-requires c κs = search needs
 
 abbrev inputAt : tie.Start → Input
-inputAt s = let a = s .args in inputFrom (now (a .image)) (now (a .marks)) (a .budget .0) (now (a .breakpoints))
+inputAt s = let a = s .args in inputFrom (now (a .image)) (now (a .marks)) (a .budget .0) (now (a .breakpoints)) (a .clearance)
 
 -- no more words are hidden than there are
 cast-hidden-total : tie.Need-cast-hidden-total
 cast-hidden-total c =
     let s = c .before .before .before .before .before .before .before .before .before .before .before .before .before .before .before .before in
-    omega (arith, c .count-hidden .ensures, count-few marked (now (s .args .marks)), served-input (inputAt s) (s .pre) .1)
+    omega (arith, c .count-hidden .ensures, count-few (hiddenFrom (s .args .clearance)) (now (s .args .marks)), served-input (inputAt s) (s .pre) .1)
 
 guarded-parts-requires : tie.Need-guarded-parts-requires
 guarded-parts-requires c κs =
@@ -59,7 +59,7 @@ returns c =
     let r = c .before .before .before .before .before .guarded-parts .ensures in
     let end = r .0 ∙ load-run i e w n refl (start .pre) (c .before .before .before .before .before .before .before .before .before .before .before .before .before .before .before .mark-words .ensures) in
     let rest = load-rest i e w n refl (start .pre) in
-    let total = r .2 .count ∙ ap (λ (x : GuardedEnd). hiddenCount marked (x .guarded .marks .memory)) end in
+    let total = r .2 .count ∙ ap (λ (x : GuardedEnd). hiddenCount (hiddenFrom (start .args .clearance)) (x .guarded .marks .memory)) end in
     (λ k. record { refused = 0; stop = stopNumber (end k .stop); executed = end k .executed; guarded = end k .guarded; hiddenTotal = total k; rest = rest k }, lasts (partsOf new) _ (new .«image_len») (load-ok i e w n) (r .1))
 
 pub accepted-run-spec : {M : Type 1} → statement M

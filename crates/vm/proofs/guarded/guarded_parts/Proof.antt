@@ -7,7 +7,8 @@ use borrow.Author.Needs.{needs}
 use denote.Ref.{now}
 use Rattle.guard.specs.Stops.{stop, go, stopNumber}
 use Rattle.guard.specs.Forms.{verdictOf}
-use Rattle.marks.specs.Marks.{marked, instructionMarks}
+use Rattle.marks.specs.Owners.{hiddenFrom}
+use Rattle.marks.specs.Marks.{instructionMarks}
 use Rattle.marks.specs.Total.{IsCount}
 use Rattle.vm.specs.View.{parts, view}
 use Rattle.vm.specs.Guard.{nextWord, guard, guardedRun}
@@ -19,22 +20,22 @@ use Rattle.vm.proofs.guarded.guarded_parts.Statement.{statement}
 use Rattle.vm.proofs.guarded.guarded_parts.Tie as tie
 
 abbrev Inv-loop : tie.InvT-loop
-Inv-loop hidden-total breakpoints marks₀ register-marks₀ memory₀ registers₀ touched₀ columns₀ numbers₀ lengths₀ s₀ limit begun₀ total₀ mdr₀ marks register-marks memory registers touched columns numbers lengths s begun total mdr =
-    (guardedRun marked breakpoints begun (limit - begun) (guardedOn (parts s memory registers touched columns numbers lengths) marks register-marks mdr)
-    ≡ guardedRun marked breakpoints 0 limit (guardedOn (parts s₀ memory₀ registers₀ touched₀ columns₀ numbers₀ lengths₀) marks₀ register-marks₀ 0))
+Inv-loop clearance hidden-total breakpoints marks₀ register-marks₀ memory₀ registers₀ touched₀ columns₀ numbers₀ lengths₀ s₀ limit begun₀ total₀ mdr₀ marks register-marks memory registers touched columns numbers lengths s begun total mdr =
+    (guardedRun (hiddenFrom clearance) breakpoints begun (limit - begun) (guardedOn (parts s memory registers touched columns numbers lengths) marks register-marks mdr)
+    ≡ guardedRun (hiddenFrom clearance) breakpoints 0 limit (guardedOn (parts s₀ memory₀ registers₀ touched₀ columns₀ numbers₀ lengths₀) marks₀ register-marks₀ 0))
     × (begun ≤ limit)
     × (limit < 18446744073709551616)
     × Fit (parts s memory registers touched columns numbers lengths)
-    × IsCount marks total
+    × IsCount (hiddenFrom clearance) marks total
 
 abbrev μ-loop : tie.MeasureT-loop
-μ-loop hidden-total breakpoints marks₀ register-marks₀ memory₀ registers₀ touched₀ columns₀ numbers₀ lengths₀ s₀ limit begun₀ total₀ mdr₀ marks register-marks memory registers touched columns numbers lengths s begun total mdr = limit - begun
+μ-loop clearance hidden-total breakpoints marks₀ register-marks₀ memory₀ registers₀ touched₀ columns₀ numbers₀ lengths₀ s₀ limit begun₀ total₀ mdr₀ marks register-marks memory registers touched columns numbers lengths s begun total mdr = limit - begun
 
 loop-holds : tie.Need-loop-holds Inv-loop μ-loop
 loop-holds c =
     let a = c .before .args in
     let z : a .budget .0 - 0 ≡ a .budget .0 = omega arith in
-    (ap (λ (j : ℕ). guardedRun marked (now (a .breakpoints)) 0 j (guardedOn (parts (a .from) (now (a .memory)) (now (a .registers)) (now (a .touched)) (now (a .columns)) (now (a .numbers)) (now (a .lengths))) (now (a .marks)) (now (a .register-marks)) 0)) z, omega arith, search needs, c .before .pre .0, c .before .pre .1)
+    (ap (λ (j : ℕ). guardedRun (hiddenFrom (a .clearance)) (now (a .breakpoints)) 0 j (guardedOn (parts (a .from) (now (a .memory)) (now (a .registers)) (now (a .touched)) (now (a .columns)) (now (a .numbers)) (now (a .lengths))) (now (a .marks)) (now (a .register-marks)) 0)) z, omega arith, search needs, c .before .pre .0, c .before .pre .1)
 
 cast-pc : tie.Need-cast-pc Inv-loop μ-loop
 cast-pc c = search needs
@@ -70,10 +71,10 @@ returns c =
     let n = a .budget .0 - l .begun in
     let v = c .before .before .before .verdict .given in
     let x = v .0 .0 in
-    let e : guard marked b (l .begun) n g ≡ stop x = sym (c .before .before .before .before .before .judge .ensures) ∙ ap verdictOf (v .1) in
+    let e : guard (hiddenFrom (a .clearance)) b (l .begun) n g ≡ stop x = sym (c .before .before .before .before .before .judge .ensures) ∙ ap verdictOf (v .1) in
     let z = c .closed-core .ensures ∙ ap (λ (j : ℕ). closedCore j (l .s)) (c .before .number .ensures) in (
       (λ i. record { stop = x; executed = l .begun; guarded = record { machine = view (parts (z i) (l .memory) (l .registers) (l .touched) (l .columns) (l .numbers) (l .lengths)); marks = g .marks } })
-          ∙ sym (guard-stops marked b (l .begun) n g x e)
+          ∙ sym (guard-stops (hiddenFrom (a .clearance)) b (l .begun) n g x e)
           ∙ l .inv .0,
       rw z (closed-fit (stopNumber x) q (l .inv .3)),
       l .inv .4,
@@ -83,14 +84,14 @@ enum-told : tie.Need-enum-told Inv-loop μ-loop
 enum-told c = search needs
 
 -- the verdict of a turn that goes on, and that it counts against the budget
-went : (c : tie.After-enum-told Inv-loop μ-loop) → let l = c .before .before .before .before .before .before .before .before .loop in let a = c .before .before .before .before .before .before .before .before .before .before .args in guard marked (now (a .breakpoints)) (l .begun) (a .budget .0 - l .begun) (guardedOn (parts (l .s) (l .memory) (l .registers) (l .touched) (l .columns) (l .numbers) (l .lengths)) (l .marks) (l .register-marks) (l .mdr)) ≡ go
+went : (c : tie.After-enum-told Inv-loop μ-loop) → let l = c .before .before .before .before .before .before .before .before .loop in let a = c .before .before .before .before .before .before .before .before .before .before .args in guard (hiddenFrom (a .clearance)) (now (a .breakpoints)) (l .begun) (a .budget .0 - l .begun) (guardedOn (parts (l .s) (l .memory) (l .registers) (l .touched) (l .columns) (l .numbers) (l .lengths)) (l .marks) (l .register-marks) (l .mdr)) ≡ go
 went c = sym (c .before .before .judge .ensures) ∙ ap verdictOf (c .enum-told .given .1)
 
 counts : (c : tie.After-enum-told Inv-loop μ-loop) → c .before .before .before .before .before .before .before .before .loop .begun < c .before .before .before .before .before .before .before .before .before .before .args .budget .0
 counts c =
     let l = c .before .before .before .before .before .before .before .before .loop in
     let a = c .before .before .before .before .before .before .before .before .before .before .args in
-    omega (arith, going marked (now (a .breakpoints)) (l .begun) (a .budget .0 - l .begun) (guardedOn (parts (l .s) (l .memory) (l .registers) (l .touched) (l .columns) (l .numbers) (l .lengths)) (l .marks) (l .register-marks) (l .mdr)) (went c) .1, l .inv .1)
+    omega (arith, going (hiddenFrom (a .clearance)) (now (a .breakpoints)) (l .begun) (a .budget .0 - l .begun) (guardedOn (parts (l .s) (l .memory) (l .registers) (l .touched) (l .columns) (l .numbers) (l .lengths)) (l .marks) (l .register-marks) (l .mdr)) (went c) .1, l .inv .1)
 
 total-instruction-requires : tie.Need-total-instruction-requires Inv-loop μ-loop
 total-instruction-requires c κs = search needs
@@ -102,7 +103,7 @@ next-parts-requires : tie.Need-next-parts-requires Inv-loop μ-loop
 next-parts-requires c κs =
     let l = c .before .before .before .before .before .before .before .before .before .before .before .before .before .before .before .before .before .before .before .before .loop in
     let a = c .before .before .before .before .before .before .before .before .before .before .before .before .before .before .before .before .before .before .before .before .before .before .args in
-    (going marked (now (a .breakpoints)) (l .begun) (a .budget .0 - l .begun) (guardedOn (parts (l .s) (l .memory) (l .registers) (l .touched) (l .columns) (l .numbers) (l .lengths)) (l .marks) (l .register-marks) (l .mdr)) (went (c .before .before .before .before .before .before .before .before .before .before .before .before)) .0, l .inv .3)
+    (going (hiddenFrom (a .clearance)) (now (a .breakpoints)) (l .begun) (a .budget .0 - l .begun) (guardedOn (parts (l .s) (l .memory) (l .registers) (l .touched) (l .columns) (l .numbers) (l .lengths)) (l .marks) (l .register-marks) (l .mdr)) (went (c .before .before .before .before .before .before .before .before .before .before .before .before)) .0, l .inv .3)
 
 add-begun : tie.Need-add-begun Inv-loop μ-loop
 add-begun c = omega (arith, counts (c .before .before .before .before .before .before .before .before .before .before .before .before .before .before), c .before .before .before .before .before .before .before .before .before .before .before .before .before .before .before .before .before .before .before .before .before .before .loop .inv .2)
@@ -132,13 +133,13 @@ loop-again c =
     let f = c .before .before .forward-parts .ensures in
     let z : a .budget .0 - (l .begun + 1) ≡ n - 1 = omega arith in (
       sym (f .guards _ _ _ (k .result) (t .ensures .fit))
-          ∙ (λ i. guardedRun marked b (l .begun + 1) (z i) (record { machine = t .ensures .steps i .machine; marks = k .ensures i }))
-          ∙ sym (guard-goes marked b (l .begun) n g e)
+          ∙ (λ i. guardedRun (hiddenFrom (a .clearance)) b (l .begun + 1) (z i) (record { machine = t .ensures .steps i .machine; marks = k .ensures i }))
+          ∙ sym (guard-goes (hiddenFrom (a .clearance)) b (l .begun) n g e)
           ∙ l .inv .0,
       omega (arith, h, f .within),
       l .inv .2,
       f .fits _ _ _ (t .ensures .fit),
-      f .totals (turn-counts (nextWord (g .machine)) (l .marks) (l .register-marks) (l .total) (l .inv .4) (u .ensures) (k .ensures)),
+      f .totals (turn-counts (hiddenFrom (a .clearance)) (nextWord (g .machine)) (l .marks) (l .register-marks) (l .total) (l .inv .4) (u .ensures) (k .ensures)),
     )
 
 pub guarded-parts-spec : {M : Type 1} → statement M

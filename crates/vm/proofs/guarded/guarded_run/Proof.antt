@@ -20,7 +20,7 @@ refused-run-requires c κs = search needs
 returns : tie.Need-returns
 returns c =
     let a = c .before .before .before .before .before .before .args in
-    let i : Input = inputFrom (now (a .image)) (now (a .marks)) (a .budget .0) (now (a .breakpoints)) in
+    let i : Input = inputFrom (now (a .image)) (now (a .marks)) (a .budget .0) (now (a .breakpoints)) (a .clearance) in
     let g = c .refused-run .ensures in (
       ap guardedAnswerOf g ∙ answer-refused i (c .before .before .guard-refusal .ensures) (c .before .if1 .taken),
       (
@@ -35,7 +35,7 @@ accepted-run-requires c κs = sym (c .before .guard-refusal .ensures) ∙ c .if1
 returns-2 : tie.Need-returns-2
 returns-2 c =
     let a = c .before .before .before .before .before .before .args in
-    let i : Input = inputFrom (now (a .image)) (now (a .marks)) (a .budget .0) (now (a .breakpoints)) in
+    let i : Input = inputFrom (now (a .image)) (now (a .marks)) (a .budget .0) (now (a .breakpoints)) (a .clearance) in
     let r = c .accepted-run .ensures in (
       r .0 ∙ sym (answer-served i (sym (c .before .before .guard-refusal .ensures) ∙ c .before .if1 .left)),
       (
