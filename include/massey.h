@@ -28,7 +28,7 @@
 #define MASSEY_VERSION 6
 
 /* The stack that is enough for any of the calls. Measured, less what an empty
- * thread takes: massey_report 48,648 bytes, massey_assemble 7,768 and
+ * thread takes: massey_report 51,384 bytes, massey_assemble 7,768 and
  * massey_listing 1,416. */
 #define MASSEY_STACK 65536
 
