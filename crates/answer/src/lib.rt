@@ -1,5 +1,7 @@
 // A program's input, and what it answers: the first bytes of a buffer, which are a call's result, the
 // line of its refusal, or the line of a replay.
+#![tactic(auto)]
+
 mod input;
 
 ghost use Rattle.std.specs.Prelude.{◌≡◌, ◌++◌, ◌+◌, ◌≤◌, length, take};

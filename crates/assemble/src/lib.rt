@@ -1,5 +1,7 @@
 // The assembler: an edited listing back to words (document 02, Change 4). A line is a part of the
 // text, what is left of it a position, a label its key.
+#![tactic(auto)]
+
 mod bytes;
 mod calls;
 mod forms;

@@ -7,7 +7,7 @@ use crate::address::Address;
 use isa::Text;
 
 // The fault that stopped the machine, if any: the Rust's Option<Fault>.
-#[derive(Drop)]
+#[derive(Clone, Copy)]
 pub enum Fault {
     Healthy,
     UnknownInstruction { word: u16, address: u8 },
@@ -15,7 +15,7 @@ pub enum Fault {
 }
 
 // One transfer across the bus, if there was one: the Rust's Option<BusTransfer>.
-#[derive(Drop)]
+#[derive(Clone, Copy)]
 pub enum BusTransfer {
     Idle,
     Read { address: Address, value: u16 },
@@ -23,14 +23,14 @@ pub enum BusTransfer {
 }
 
 // A word that may be missing: the Rust's Option<u16>.
-#[derive(Drop)]
+#[derive(Clone, Copy)]
 pub enum WordOption {
     Some(u16),
     None,
 }
 
 // The circuits of the ALU.
-#[derive(Drop)]
+#[derive(Clone, Copy)]
 pub enum AluOperation {
     Add,
     Negate,
@@ -59,7 +59,7 @@ impl AluOperation {
 }
 
 // The last operation of the ALU, if there was one: the Rust's Option<AluRecord>.
-#[derive(Drop)]
+#[derive(Clone, Copy)]
 pub enum AluRecord {
     Unused,
     Used {
@@ -71,14 +71,14 @@ pub enum AluRecord {
 }
 
 // The register that a tick writes, if it writes one.
-#[derive(Drop)]
+#[derive(Clone, Copy)]
 pub enum RegisterWrite {
     Unwritten,
     Written { register: u8, value: u16 },
 }
 
 // The control unit and the registers beside it.
-#[derive(Drop)]
+#[derive(Clone, Copy)]
 pub struct Control {
     pub ir: u16,
     pub mdr: u16,
@@ -91,7 +91,7 @@ pub struct Control {
 }
 
 // The machine without its arrays and counters.
-#[derive(Drop)]
+#[derive(Clone, Copy)]
 pub struct State {
     pub control: Control,
     pub fault: Fault,

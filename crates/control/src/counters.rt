@@ -7,7 +7,7 @@ use crate::control::BusTransfer;
 // A running machine counts no further than this.
 pub const COUNTER_LIMIT: u64 = 18446744073709551600;
 
-#[derive(Drop)]
+#[derive(Clone, Copy)]
 pub struct Counters {
     pub instructions: u64,
     pub micro_operations: u64,

@@ -1,5 +1,7 @@
 // What one tick reads and leaves, by value; how it counts; and which states of the control unit a machine
 // can be in: what every layer above speaks of, and no tick itself.
+#![tactic(auto)]
+
 mod address;
 mod codes;
 mod control;

@@ -12,7 +12,7 @@ use marks::{mark_decoded, total_decoded};
 use trace::{set_register, set_word};
 
 // What is small of a machine between two instructions, and is not set anew by the next one.
-#[derive(Drop)]
+#[derive(Clone, Copy)]
 pub struct Lane {
     pub counters: Counters,
     pub touched_len: usize,

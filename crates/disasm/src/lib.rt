@@ -1,4 +1,6 @@
 // Disassembly: a word as assembler source, and the operands that it names.
+#![tactic(auto)]
+
 mod disassembly;
 mod operands;
 

@@ -1,5 +1,7 @@
 // Bytes and numbers in lent bytes, numbers high byte first. Every public function takes any input, so that no
 // caller has to test first: what does not fit whole is not written, what is not wholly there is not read.
+#![tactic(auto)]
+
 ghost use Rattle.std.specs.Prelude.{◌≡◌, ◌+◌, ◌*◌, ◌^◌, ◌≤◌, ◌<◌, leb, length, drop};
 ghost use Rattle.encoding.specs.Bytes.{over, big_endian, big_endians, number, numbers, written, read_number, read_words, member};
 

@@ -12,11 +12,11 @@ use isa::{Decoded, Instruction, Opcode, REGISTER_COUNT};
 use marks::is_hidden;
 
 // A number of instructions begun.
-#[derive(Drop)]
+#[derive(Clone, Copy)]
 pub struct Begun(pub u64);
 
 // Why the machine stopped running. `Refused` has the refusal's number, and stands for no stop.
-#[derive(Drop)]
+#[derive(Clone, Copy)]
 pub enum RunStop {
     Halted,
     Breakpoint(u8),
@@ -129,7 +129,7 @@ pub fn run_verdict(
 }
 
 // Why a guarded run stopped.
-#[derive(Drop)]
+#[derive(Clone, Copy)]
 pub enum GuardedStop {
     Halted,
     Breakpoint,

@@ -1,5 +1,7 @@
 // The history of the machine in a lent store (01, section 7): records of one length, oldest first, and
 // what `undo` needs beside them.
+#![tactic(auto)]
+
 mod differing;
 mod layout;
 mod restore;

@@ -7,7 +7,7 @@ use isa::{MEMORY_WORDS, REGISTER_COUNT};
 
 // What `push_history` keeps and `undo` gives back. The arrays stand first, where a proof's search for their
 // lengths looks first.
-#[derive(Drop)]
+#[derive(Clone, Copy)]
 pub struct Snapshot {
     pub registers: [u16; REGISTER_COUNT],
     pub memory: [u16; MEMORY_WORDS],

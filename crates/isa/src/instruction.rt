@@ -11,7 +11,7 @@ use crate::opcode::{Decoded, Opcode};
 use crate::text::Text;
 
 // A MASSEY machine instruction: a 16-bit word.
-#[derive(Drop)]
+#[derive(Clone, Copy)]
 pub struct Instruction {
     pub raw: u16,
 }

@@ -1,4 +1,6 @@
 // The MASSEY machine instruction set: words, opcodes and their texts.
+#![tactic(auto)]
+
 mod digits;
 mod instruction;
 mod opcode;

@@ -8,7 +8,7 @@ ghost use Rattle.isa.specs.Nibbles.{unused_of};
 use crate::text::{LongText, Text};
 
 // The opcode of a MASSEY machine instruction. 0, 5 and F have none.
-#[derive(Drop)]
+#[derive(Clone, Copy)]
 pub enum Opcode {
     // 1xYZ, LOAD Rx, YZ.
     LoadImmediate,
@@ -39,7 +39,7 @@ pub enum Opcode {
 }
 
 // What the first digit of a word says: the Rust's Option<Opcode>.
-#[derive(Drop)]
+#[derive(Clone, Copy)]
 pub enum Decoded {
     Known(Opcode),
     Unknown,
@@ -308,7 +308,7 @@ impl Opcode {
 }
 
 // The three groups of machine instruction.
-#[derive(Drop)]
+#[derive(Clone, Copy)]
 pub enum InstructionGroup {
     // Instructions that move data between memory and registers.
     DataTransfer,

@@ -27,7 +27,7 @@ fn live_length(s: &[u8]) -> usize
 }
 
 // A text of at most 32 bytes; the bytes past `len` are zero.
-#[derive(Drop)]
+#[derive(Clone, Copy)]
 pub struct Text {
     pub bytes: [u8; TEXT_WIDTH],
     pub len: u8,

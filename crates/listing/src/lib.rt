@@ -1,4 +1,6 @@
 // The listing of a program image: a head, and a line of 45 bytes for each word.
+#![tactic(auto)]
+
 mod calls;
 mod head;
 mod labels;

@@ -1,5 +1,7 @@
 // Marks: the owners of words and registers, how an instruction moves them, and how many words are hidden from a reader.
 // A mark is a byte of eight owners; 0 is open.
+#![tactic(auto)]
+
 ghost use Rattle.std.specs.Prelude.{◌≡◌, cond};
 ghost use Rattle.isa.specs.Word.{decode_word};
 ghost use Rattle.marks.specs.Owners.{joined, hidden_from};

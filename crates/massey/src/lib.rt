@@ -1,5 +1,7 @@
 // The calls that C and Rust link, on numbers and bytes: include/massey.h. A call answers a length,
 // or minus the refusal's number, and lays no condition on its caller.
+#![tactic(auto)]
+
 ghost use Rattle.std.specs.Prelude.{◌≡◌};
 ghost use Rattle.encoding.specs.Answer.{outcome};
 ghost use Rattle.massey.specs.Calls.{disassemble_outcome, listing_outcome, assembled_outcome, reported_outcome};

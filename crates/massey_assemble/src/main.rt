@@ -1,5 +1,7 @@
 // The assembler program: a text on standard input, the words of its image high byte first, or
 // `refused N` and a line feed, on standard output (docs/FORMATS.md).
+#![tactic(auto)]
+
 ghost use Rattle.std.specs.Prelude.{◌≡◌};
 ghost use Rattle.encoding.specs.Answer.{outcome};
 ghost use Rattle.massey_assemble.specs.Answer.{program_outcome};

@@ -1,5 +1,7 @@
 // The call program: a list of calls on a machine on standard input, each call's answer on standard
 // output (docs/FORMATS.md, 'The call program').
+#![tactic(auto)]
+
 mod calls;
 mod dump;
 mod list;

@@ -1,5 +1,7 @@
 // The listing program: words high byte first on standard input, their listing, or `refused N` and a
 // line feed, on standard output (docs/FORMATS.md).
+#![tactic(auto)]
+
 ghost use Rattle.std.specs.Prelude.{◌≡◌};
 ghost use Rattle.encoding.specs.Answer.{outcome};
 ghost use Rattle.massey_listing.specs.Answer.{program_outcome};

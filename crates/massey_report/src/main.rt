@@ -1,5 +1,7 @@
 // The report program: a guarded run's input on standard input, numbers high byte first, and its
 // report, or `refused N` and a line feed, on standard output (docs/FORMATS.md).
+#![tactic(auto)]
+
 ghost use Rattle.std.specs.Prelude.{◌≡◌};
 ghost use Rattle.encoding.specs.Answer.{outcome};
 ghost use Rattle.massey_report.specs.Answer.{program_outcome};

@@ -1,5 +1,7 @@
 // Numbers and registers in the notations that only programs and tests ask for: hexadecimal of any width,
 // a register's name read back, two's complement, and binary.
+#![tactic(auto)]
+
 ghost use Rattle.std.specs.Prelude.{◌≡◌, ◌≤◌};
 ghost use Rattle.isa.specs.Text.{text};
 ghost use Rattle.notation.specs.Notation.{hex_length, hex_width, format_hex};

@@ -1,4 +1,6 @@
 // The register transfers that an instruction is made of, and their texts.
+#![tactic(auto)]
+
 mod plan;
 mod texts;
 

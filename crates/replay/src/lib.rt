@@ -1,6 +1,8 @@
 // The fields of a record, for the programs that replay the original's answers. A program writes the
 // record that is due, each field at its place, and compares the two whole: one that is too short or
 // too long then fails with no test of its own.
+#![tactic(auto)]
+
 ghost use Rattle.std.specs.Prelude.{◌≡◌, ◌%◌, get_or};
 ghost use Rattle.encoding.specs.Bytes.{big_endian, written, read_number};
 

@@ -4,6 +4,8 @@
 // port answers the same. What is written is one line: how many passed and how many failed.
 // Reading and counting stand here as they do in replay_words: a library's functions say by an
 // equation what they do, and none can say what is read.
+#![tactic(auto)]
+
 mod readings;
 mod reports;
 

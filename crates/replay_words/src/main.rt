@@ -1,6 +1,8 @@
 // Replays a list of records on words, listings, source texts, plans and single ticks from standard
 // input. Each has a question and the answer that the oracle gave, and passes where the port gives the
 // same. What is written is one line: how many passed and how many failed.
+#![tactic(auto)]
+
 mod listings;
 mod micro;
 mod opcode;

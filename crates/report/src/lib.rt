@@ -1,4 +1,6 @@
 // The report of a guarded run, written into lent bytes. Its definitions and laws are in `secret`.
+#![tactic(auto)]
+
 mod call;
 mod program;
 mod records;

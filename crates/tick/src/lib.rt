@@ -1,5 +1,7 @@
 // One tick of the MASSEY machine on small values. The arrays are the layer's above, the texts, the values
 // and their counters the layers' below.
+#![tactic(auto)]
+
 mod alu;
 mod execute;
 mod fetch;

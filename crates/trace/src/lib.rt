@@ -1,5 +1,7 @@
 // The arrays that a tick writes, as they are lent: memory and registers, the touched addresses, the trace.
 // Nothing here needs a machine, and so it lays no condition on its caller.
+#![tactic(auto)]
+
 mod cells;
 mod lines;
 mod records;

@@ -23,7 +23,7 @@ pub struct TraceRecord {
 }
 
 // The oldest record's slot, and how many records there are.
-#[derive(Drop)]
+#[derive(Clone, Copy)]
 pub struct Ring {
     pub start: usize,
     pub len: usize,

@@ -1,5 +1,7 @@
 // The MASSEY machine: the arrays above one tick, instructions, runs, and the calls on a machine. Each
 // call takes the machine by value, checks it once, and gives it back.
+#![tactic(auto)]
+
 mod engine;
 mod guarded;
 mod instruction;

@@ -11,7 +11,7 @@ use trace::{COLUMNS_LENGTH, TRACE_LIMIT};
 // All that the Rust's machine holds; of its history, the number of records. The trace is a ring: its
 // oldest record is in slot `trace_start` modulo 512. What stands past a count shows nowhere. A number
 // stands between two large arrays, so that the compiler copies each straight to its place.
-#[derive(Drop)]
+#[derive(Clone, Copy)]
 pub struct Machine {
     pub touched: [Address; MEMORY_WORDS],
     pub touched_len: usize,

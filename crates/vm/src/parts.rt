@@ -14,7 +14,7 @@ use trace::{
 };
 
 // What is small: passed by value at every level.
-#[derive(Drop)]
+#[derive(Clone, Copy)]
 pub struct Core {
     pub state: State,
     pub counters: Counters,
