@@ -1,0 +1,9 @@
+-- Assumes nothing.
+use Rattle.disasm.specs.Operands.{read_register}
+use Rattle.disasm.proofs.operands.read_register.Goals as goal
+
+pub returns : goal.returns
+unfolding read_register
+returns c =
+    let o = c in
+    rw (c.operand.ensures, c.read_place.ensures, o.opcode.ensures, o.from_word-i.ensures)
