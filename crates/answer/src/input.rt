@@ -1,5 +1,7 @@
 // Reading a program's input.
-ghost use Rattle.io.specs.Counts.{IsPrefixLen};
+ghost use Rattle.std.specs.Prelude.{◌≤◌, length};
+
+use std::io::Read;
 
 // How many bytes were read, and whether they are all that there are or that were asked for: a read
 // that failed may have left some behind.
@@ -10,20 +12,16 @@ pub struct Input {
 }
 
 // Reads until `buf` is full, the input ends or a read fails.
-pub fn read_input(fd: i32, buf: &mut [u8]) -> Input
-    ensures { IsPrefixLen result.len buf.new }
+pub fn read_input<R: Read>(reader: &mut R, buf: &mut [u8]) -> Input
+    ensures { result.len ≤ length buf.new }
 {
     let mut len = 0;
     while len < buf.len() {
-        let got = libc::read(fd, &mut buf[len..]);
-        let more = io::count(got, &buf[len..]);
-        if more == 0 {
-            return Input {
-                len,
-                whole: got == 0,
-            };
+        match reader.read(&mut buf[len..]) {
+            Ok(0) => return Input { len, whole: true },
+            Ok(more) => len += more,
+            Err(_) => return Input { len, whole: false },
         }
-        len += more;
     }
     Input { len, whole: true }
 }
