@@ -283,6 +283,8 @@ def convert(path):
     for o, n in names_of_goals.items():
         if o != n and o not in needs.values() and o not in names_of_goals.values():
             res = re.sub(r"(?<![\w.'-])" + re.escape(o) + r"(?![\w'-])", n, res)
+    # these have two clauses today
+    res = re.sub(r"((?:wrapping|checked|saturating|overflowing)_[a-z]+_u\d+(?:-\w+)*\.ensures)(?![.\w])", r"\1.value", res)
     keep = [u for u in uses if ' as tie' not in u and '.Statement.' not in u]
     folder = os.path.dirname(path)
     q = '.'.join(['Rattle', crate, 'proofs', mod])

@@ -2,7 +2,7 @@
 -- `registers_by` is `registers_after`, `Places` that `touch_in` is `touched_by`, `Rings` that `push_into` is `pushed`.
 -- Assumes nothing.
 use Rattle.std.specs.Prelude.{ℕ, ◌+◌, ◌*◌, ◌%◌, cond, ltb, List, [], ◌∷◌, take, nat_lt, slice_set}
-use Rattle.std.specs.Borrow.{Bor}
+use Rattle.std.specs.Borrow.{MutBor}
 use denote.Triple.Both.{Both}
 use Rattle.isa.specs.Sizes.{memory_words, register_count, text_width}
 use Rattle.isa.specs.declared.text.Text.{Text}
@@ -46,7 +46,7 @@ touch_in (Write a v) q = note_in a q
 
 -- an array that is lent to a call: as it came, and as it is left
 abbrev pub Lent : Type 0
-Lent = Both (Bor (List ℕ)) (Bor (List ℕ))
+Lent = Both (MutBor (List ℕ)) (MutBor (List ℕ))
 
 -- the ring and the arrays that came to a call, and those that it leaves: columns, numbers, lengths
 abbrev pub arrays_at_first : Ring → Lent → Lent → Lent → Arrays
