@@ -2,7 +2,7 @@
 -- none of these, and the proofs show that the calls are what `Calls`, `StepCalls`, `RunCalls`, `History` and `Guard` say.
 -- Assumes nothing.
 use Rattle.std.specs.Prelude.{ℕ, ◌<◌, ◌≡◌, Bool, true, List, length, get_or}
-use Rattle.std.specs.Borrow.{Bor}
+use Rattle.std.specs.Borrow.{MutBor}
 use Rattle.isa.specs.Sizes.{memory_words}
 use Rattle.control.specs.Lawful.{lawful}
 use Rattle.marks.specs.Marks.{marks_of}
@@ -22,7 +22,7 @@ use Rattle.vm.specs.Guard.{Guarded, GuardedEnd}
 -- ---- the parts of a call
 
 -- the parts that are lent to a call
-abbrev pub given : Core → Bor (List ℕ) → Bor (List ℕ) → Bor (List ℕ) → Bor (List ℕ) → Bor (List ℕ) → Bor (List ℕ) → Parts
+abbrev pub given : Core → MutBor (List ℕ) → MutBor (List ℕ) → MutBor (List ℕ) → MutBor (List ℕ) → MutBor (List ℕ) → MutBor (List ℕ) → Parts
 given c m r t k i l = parts c m.now r.now t.now k.now i.now l.now
 
 -- the parts that came to a call
