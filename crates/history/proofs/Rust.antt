@@ -192,7 +192,7 @@ pub same_played : {limit : ℕ} {h : History} {l : List Snapshot} (calls : List 
     → Same limit (play calls h) (play_rust limit calls l) × (undone_store calls h ≡ undone_rust limit calls l)
 unfolding play play_rust undone_store undone_rust
 same_played [] p m = (m, refl)
-same_played (Call.push s ∷ calls) p m = same_played calls p.1.1 (same_pushed s p.0 p.1.0 m)
+same_played {limit} {h} {l} (Call.push s ∷ calls) p m = same_played {h = pushed s h} calls p.1.1 (same_pushed s p.0 p.1.0 m)
 same_played {limit} {h} {l} (Call.undo ∷ calls) p m =
     let r = same_played calls p (same_undone m) in
     let taken : newest h.store h.count ≡ rust_last l = newest_last h.store h.count m.held m.good ∙ ap rust_last m.list_is in
