@@ -1,8 +1,7 @@
-use Prim.Native.Nat.{◌-◌, zero-le}
+use Prim.Native.Nat.{zero-le}
 use native.Mathlib.Omega.{arith}
 use mathlib.Core.Path.{refl, sym, ◌∙◌}
 use borrow.Author.Tests.{eq-eqb, ne_eqb}
-use lib.ListN.{drop}
 use Rattle.encoding.proofs.Members.{mem_drop, mem_end}
 use Rattle.encoding.proofs.contains.Goals as goal
 

@@ -20,7 +20,7 @@ low_byte c = omega (arith, c.type_inv.bytes (c.args.at + 2 * c.loop-i.i + 1))
 pub overflow_cast-high : goal.overflow_cast-high
 overflow_cast-high c =
     let high_byte : get_or c.args.bytes.now (c.args.at + 2 * c.loop-i.i) 0 < 256 =
-        omega (arith, c.type_inv.bytes (c.args.at + 2 * c.loop-i.i)) in
+    omega (arith, c.type_inv.bytes (c.args.at + 2 * c.loop-i.i)) in
     omega (arith, high_byte)
 
 pub overflow_cast-low : goal.overflow_cast-low
@@ -29,13 +29,13 @@ overflow_cast-low c = omega (arith, low_byte c)
 pub overflow_mul-out : goal.overflow_mul-out
 overflow_mul-out c =
     let high_byte : get_or c.args.bytes.now (c.args.at + 2 * c.loop-i.i) 0 < 256 =
-        omega (arith, c.type_inv.bytes (c.args.at + 2 * c.loop-i.i)) in
+    omega (arith, c.type_inv.bytes (c.args.at + 2 * c.loop-i.i)) in
     omega (arith, high_byte)
 
 pub overflow_add-out : goal.overflow_add-out
 overflow_add-out c =
     let high_byte : get_or c.args.bytes.now (c.args.at + 2 * c.loop-i.i) 0 < 256 =
-        omega (arith, c.type_inv.bytes (c.args.at + 2 * c.loop-i.i)) in
+    omega (arith, c.type_inv.bytes (c.args.at + 2 * c.loop-i.i)) in
     omega (arith, high_byte, low_byte c)
 
 pub loop-i-preserved : goal.loop-i-preserved

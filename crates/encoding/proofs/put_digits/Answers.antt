@@ -3,7 +3,7 @@ use Prim.Native.Nat.{ℕ, ◌-◌}
 use native.Mathlib.Nat.{sub-zero}
 use native.Mathlib.Omega.{arith}
 use borrow.Author.Rules.{rules}
-use lib.ListN.{length, length-set}
+use lib.ListN.{length-set}
 use Rattle.encoding.specs.Bytes.{over, big_endian}
 use Rattle.encoding.proofs.Written.{over_nil}
 use Rattle.encoding.proofs.Loops.{put_turn}

@@ -1,10 +1,9 @@
 use mathlib.Core.Path.{refl, sym, ◌∙◌}
-use Prim.Native.Nat.{◌+◌, ◌*◌, ◌-◌}
+use Prim.Native.Nat.{◌+◌, ◌*◌}
 use native.Mathlib.Nat.{add-zero, sub-zero, zero-add}
 use native.Mathlib.Omega.{arith}
 use borrow.Author.Rules.{rules}
 use lib.ListN.{length, get_or}
-use Rattle.encoding.specs.Bytes.{over, big_endian, big_endians}
 use Rattle.encoding.proofs.Written.{each_turn, each_done}
 use Rattle.encoding.proofs.Numbers.{length-big_endian, big_endians_each}
 use Rattle.encoding.proofs.put_each.Invariants.{piece}

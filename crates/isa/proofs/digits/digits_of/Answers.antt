@@ -33,31 +33,31 @@ loop-left-init c = (refl, refl)
 pub overflow_mul-digits : goal.overflow_mul-digits
 overflow_mul-digits c =
     let few : c.loop-left.left ≤ 2 =
-        let l = c.loop-left in bound c.args.word l.left l.digits l.rest l.invariant in
+    let l = c.loop-left in bound c.args.word l.left l.digits l.rest l.invariant in
     let b = few in omega arith
 
 pub bounds-digits-left : goal.bounds-digits-left
 bounds-digits-left c =
     let few : c.loop-left.left ≤ 2 =
-        let l = c.loop-left in bound c.args.word l.left l.digits l.rest l.invariant in
+    let l = c.loop-left in bound c.args.word l.left l.digits l.rest l.invariant in
     let b = few in omega arith
 
 pub overflow_mul-digits-in-loop-left : goal.overflow_mul-digits-in-loop-left
 overflow_mul-digits-in-loop-left c =
     let few : c.loop-left.left ≤ 2 =
-        let l = c.loop-left in bound c.args.word l.left l.digits l.rest l.invariant in
+    let l = c.loop-left in bound c.args.word l.left l.digits l.rest l.invariant in
     let b = few in omega arith
 
 pub overflow_add-digits : goal.overflow_add-digits
 overflow_add-digits c =
     let few : c.loop-left.left ≤ 2 =
-        let l = c.loop-left in bound c.args.word l.left l.digits l.rest l.invariant in
+    let l = c.loop-left in bound c.args.word l.left l.digits l.rest l.invariant in
     let b = few in omega arith
 
 pub bounds-digits-left-in-loop-left : goal.bounds-digits-left-in-loop-left
 bounds-digits-left-in-loop-left c =
     let few : c.loop-left.left ≤ 2 =
-        let l = c.loop-left in bound c.args.word l.left l.digits l.rest l.invariant in
+    let l = c.loop-left in bound c.args.word l.left l.digits l.rest l.invariant in
     let b = few in omega arith
 
 pub loop-left-preserved : goal.loop-left-preserved

@@ -1,6 +1,6 @@
 -- The invariant: of the word's four digits those of the bytes that are left are still zeros.
 -- Assumes nothing.
-use Prim.Native.Nat.{ℕ, zero, suc, ◌-◌, ◌/◌}
+use Prim.Native.Nat.{ℕ, zero, suc, ◌/◌}
 use mathlib.Core.Path.{◌≡◌}
 use mathlib.Core.List.{List, [], ◌∷◌}
 use Rattle.isa.specs.Format.{hex_digit, hex4}

@@ -1,6 +1,5 @@
 -- Assumes nothing.
 use Rattle.isa.specs.Format.{fill}
-use borrow.Author.Rules.{rules}
 use Rattle.isa.proofs.digits.format_byte.Goals as goal
 
 -- NO GOAL: slice-aggregate-format : tie.Need-slice-aggregate-format

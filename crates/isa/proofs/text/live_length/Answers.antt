@@ -1,7 +1,5 @@
-use Prim.Native.Nat.{◌-◌}
 use native.Mathlib.Omega.{arith}
 use mathlib.Core.Path.{refl, ap, ◌∙◌}
-use lib.ListN.{take}
 use lib.Seq.{take_all}
 use Rattle.isa.specs.Text.{trimmed}
 use Rattle.isa.proofs.Texts.{trim_other, trim_space}
@@ -17,8 +15,8 @@ loop-i-preserved c =
     let s = c.args.s.now in
     let i = c.loop-i.i in
     elim c.if-s-i-ne32.branch [
-      then-s-i-ne32 w ↦ (rw w.n-is (trim_other s i (omega arith) w.if-s-i-ne32.true), omega arith, omega arith)
-    | else-s-i-ne32 w ↦ (rw w.n-is (trim_space s i c.loop-i.n (omega arith) w.if-s-i-ne32.false c.loop-i.invariant.0), omega arith, omega arith)
+      | then-s-i-ne32 w ↦ (rw w.n-is (trim_other s i (omega arith) w.if-s-i-ne32.true), omega arith, omega arith)
+      | else-s-i-ne32 w ↦ (rw w.n-is (trim_space s i c.loop-i.n (omega arith) w.if-s-i-ne32.false c.loop-i.invariant.0), omega arith, omega arith)
     ]
 
 pub returns : goal.returns

@@ -3,7 +3,6 @@ use mathlib.Core.Path.{sym, ap, ◌∙◌}
 use Rattle.isa.specs.declared.opcode.InstructionGroup.{InstructionGroup}
 use Rattle.isa.specs.Text.{ascii, text}
 use Rattle.isa.specs.Opcode.{label_of}
-use borrow.Author.Rules.{rules}
 use Rattle.isa.proofs.opcode.InstructionGroup.label.Goals as goal
 
 -- NO GOAL: slice-aggregate-from-bytes : tie.Need-slice-aggregate-from-bytes
