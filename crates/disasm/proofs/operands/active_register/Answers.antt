@@ -5,11 +5,9 @@ use Rattle.disasm.proofs.operands.active_register.Goals as goal
 pub returns-in-Some : goal.returns-in-Some
 unfolding active_register
 returns-in-Some c =
-    let w = c in
-    rw (← w.written_register-written.ensures, c.in-Some.is)
+    rw (← c.written_register-written.ensures, c.in-Some.is)
 
 pub returns-in-None : goal.returns-in-None
 unfolding active_register
 returns-in-None c =
-    let w = c in
-    rw (← w.written_register-written.ensures, c.in-None.is) c.read_register.ensures
+    rw (← c.written_register-written.ensures, c.in-None.is) c.read_register.ensures

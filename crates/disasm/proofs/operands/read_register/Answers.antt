@@ -5,5 +5,4 @@ use Rattle.disasm.proofs.operands.read_register.Goals as goal
 pub returns : goal.returns
 unfolding read_register
 returns c =
-    let o = c in
-    rw (c.operand.ensures, c.read_place.ensures, o.opcode.ensures, o.from_word-i.ensures)
+    rw (c.operand.ensures, c.read_place.ensures, c.opcode.ensures, c.from_word-i.ensures)
