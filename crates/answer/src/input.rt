@@ -1,5 +1,6 @@
 // Reading a program's input.
-ghost use Rattle.std.specs.Prelude.{◌≤◌, length};
+ghost use Rattle.std.specs.Prelude.{◌<◌, ◌≤◌, length, take, IsTrue};
+ghost use Rattle.std.specs.Io.KnownBytes.{Consumes, IsAtEnd};
 
 use std::io::Read;
 
@@ -11,9 +12,14 @@ pub struct Input {
     pub whole: bool,
 }
 
-// Reads until `buf` is full, the input ends or a read fails.
+// Reads until `buf` is full, the input ends or a read fails. Whichever it was, the bytes that the
+// reader gave stand at the start of `buf`, and none of them is lost.
 pub fn read_input<R: Read>(reader: &mut R, buf: &mut [u8]) -> Input
-    ensures { result.len ≤ length buf.new }
+    ensures in_bounds { result.len ≤ length buf.new }
+    ensures bytes { Consumes (R.remaining reader.old) (R.remaining reader.new)
+        (take result.len buf.new) }
+    ensures end { IsTrue result.whole → result.len < length buf.new →
+        IsAtEnd (R.remaining reader.new) }
 {
     let mut len = 0;
     while len < buf.len() {
