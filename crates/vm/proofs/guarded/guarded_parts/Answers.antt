@@ -28,9 +28,8 @@ returns-in-Stop c =
     let g = (guarded_on (parts l.s l.memory l.registers l.touched l.columns l.numbers l.lengths) l.marks l.register_marks l.mdr) in
     let b = a.breakpoints.now in
     let n = a.budget.0 - l.begun in
-    let v = c.verdict-1.given in
-    let x = v.0.0 in
-    let e : guard (hidden_from a.clearance) b l.begun n g ≡ stop x = sym c.judge-verdict.ensures ∙ ap verdict_of v.1 in
+    let x = c.in-Stop.stop in
+    let e : guard (hidden_from a.clearance) b l.begun n g ≡ stop x = sym c.judge-verdict.ensures ∙ ap verdict_of c.in-Stop.is in
     let z = c.closed_core-core.ensures ∙ ap (λ (j : ℕ). closed_core j l.s) c.number.ensures in (
       (λ i. record { stop = x; executed = l.begun; guarded = record { machine = view (parts (z i) l.memory l.registers l.touched l.columns l.numbers l.lengths); marks = g.marks } })
           ∙ sym (guard_stops (hidden_from a.clearance) b l.begun n g x e)

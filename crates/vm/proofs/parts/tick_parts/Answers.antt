@@ -28,14 +28,14 @@ read_operands-o-requires c =
 pub returns : goal.returns
 returns c =
     let byte : Fits w8 c.args.s.state.control.mar =
-        search rules in
+        search (rules, c.well_formed) in
     let mar : c.args.s.state.control.mar < memory_words =
         of_memory (byte) in
     let s = c in let a = s.args in
     let o = c.read_operands-o in
     let x = c.tick_text-text in
     let h = c.tick_phase-phase in
-    let t = c.tick_of_lem in
+    let t = c.tick_of-t in
     let k = c.count_tick-counters in
     let w = c.set_register in
     let m = c.set_word in

@@ -23,9 +23,8 @@ returns-in-Stop c =
     let q = (parts l.s l.memory l.registers l.touched l.columns l.numbers l.lengths) in
     let b = a.breakpoints.now in
     let n = a.budget.0 - l.begun in
-    let v = c.verdict-1.given in
-    let x = v.0.0 in
-    let e : verdict b l.begun n (view q) ≡ stop x = sym c.run_verdict-verdict.ensures ∙ ap run_verdict_of v.1 in
+    let x = c.in-Stop.stop in
+    let e : verdict b l.begun n (view q) ≡ stop x = sym c.run_verdict-verdict.ensures ∙ ap run_verdict_of c.in-Stop.is in
     let z = c.closed_core-core.ensures ∙ ap (λ (j : ℕ). closed_core j l.s) c.number.ensures in (
       (λ i. record { stop = x; executed = l.begun; machine = view (parts (z i) l.memory l.registers l.touched l.columns l.numbers l.lengths) })
           ∙ sym (run_stops b l.begun n (view q) x e)
