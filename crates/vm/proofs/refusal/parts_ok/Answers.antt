@@ -16,7 +16,7 @@ use Rattle.vm.specs.Refusal.{parts_ok}
 use Rattle.vm.proofs.refusal.parts_ok.Goals as goal
 
 -- the answer by the six tests
-by : (c : Core) (n : ℕ) (t l : List ℕ) {a b d e g h : Bool} → lawful c.state-1.control ≡ a → leb n memory_words ≡ b → leb c.trace_len 512 ≡ d
+by : (c : Core) (n : ℕ) (t l : List ℕ) {a b d e g h : Bool} → lawful c.state.control ≡ a → leb n memory_words ≡ b → leb c.trace_len 512 ≡ d
     → short_texts (live_lengths c.trace_start c.trace_len l) ≡ e → leb c.touched_len memory_words ≡ g → distinct (take c.touched_len t) ≡ h
     → a && (b && (d && (e && (g && h)))) ≡ parts_ok c n t l
 unfolding parts_ok

@@ -10,7 +10,7 @@ use Rattle.vm.specs.Refusal.{parts_ok, step_refusal, step_refusal_if}
 use Rattle.vm.proofs.refusal.step_refusal.Goals as goal
 
 -- the answer by the three tests
-by : (c : Core) (n : ℕ) (t l : List ℕ) {r a b d : Bool} → r ≡ parts_ok c n t l → r ≡ a → c.state.control.halted ≡ b → over_counted c.counters-1 ≡ d → step_refusal_if a b d ≡ step_refusal c n t l
+by : (c : Core) (n : ℕ) (t l : List ℕ) {r a b d : Bool} → r ≡ parts_ok c n t l → r ≡ a → c.state.control.halted ≡ b → over_counted c.counters ≡ d → step_refusal_if a b d ≡ step_refusal c n t l
 unfolding step_refusal
 by c n t l e p1 p2 p3 = let q = sym e ∙ p1 in sym (λ i. step_refusal_if (q i) (p2 i) (p3 i))
 
