@@ -14,7 +14,7 @@ returns-then-state c = let a = c.args in ahead_none (hidden_from a.clearance) a.
 pub returns : goal.returns
 returns c =
     let byte : c.args.from.state.control.pc < 256 =
-        search rules in
+    search rules in
     let s = c in
     let a = s.args in
     let m = c.light_forward-m in

@@ -2,11 +2,10 @@
 -- Assumes nothing.
 use Prim.Native.Nat.{◌≤◌, ◌<◌, ◌-◌}
 use mathlib.Core.Path.{◌≡◌}
-use Rattle.guard.specs.Stops.{stop, go}
 use Rattle.marks.specs.Owners.{hidden_from}
 use Rattle.marks.specs.Total.{IsCount}
 use Rattle.vm.specs.View.{parts}
-use Rattle.vm.specs.Guard.{guard, guarded_run}
+use Rattle.vm.specs.Guard.{guarded_run}
 use Rattle.vm.specs.Forms.{Fit, guarded_on}
 use Rattle.vm.proofs.guarded.guarded_parts.Given as goal
 

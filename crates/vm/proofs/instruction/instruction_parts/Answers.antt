@@ -1,9 +1,7 @@
-use Prim.Native.Nat.{◌≤◌, ◌-◌}
+use Prim.Native.Nat.{◌≤◌}
 use native.Mathlib.Omega.{arith}
 use mathlib.Core.Path.{refl, sym, ◌∙◌}
-use mathlib.Core.Bool.{false}
 use borrow.Author.Rules.{rules}
-use Rattle.vm.specs.View.{parts}
 use Rattle.vm.proofs.TickTurns.{go_on, ended, spent}
 use Rattle.vm.proofs.instruction.instruction_parts.Goals as goal
 

@@ -29,7 +29,7 @@ by m core good e = ap (λ (b : Bool). cond b 0 8) (sym e ∙ good) ∙ ap (λ (k
 pub parts_ok-good-requires : goal.parts_ok-good-requires
 parts_ok-good-requires c =
     let sizes : Sizes c.args.m =
-        record { touched = search rules; bytes = λ i. search rules; lengths = search rules } in
+    record { touched = search rules; bytes = λ i. search rules; lengths = search rules } in
     let z = sizes in (z.touched, z.lengths, λ i. of_memory (z.bytes i))
 
 pub returns-then-good : goal.returns-then-good

@@ -1,6 +1,5 @@
 -- The fault and the text are what the calls answer.
 -- Assumes nothing.
-use borrow.Author.Rules.{rules}
 use Rattle.vm.proofs.micro.halted_op.Goals as goal
 
 -- NO GOAL: slice-aggregate-from-bytes : tie.Need-slice-aggregate-from-bytes

@@ -1,6 +1,5 @@
 -- The text is what the call answers.
 -- Assumes nothing.
-use borrow.Author.Rules.{rules}
 use Rattle.vm.proofs.micro.no_op.Goals as goal
 
 -- NO GOAL: slice-aggregate-from-bytes : tie.Need-slice-aggregate-from-bytes

@@ -20,17 +20,17 @@ use Rattle.vm.proofs.parts.tick_parts.Goals as goal
 pub read_operands-o-requires : goal.read_operands-o-requires
 read_operands-o-requires c =
     let byte : Fits w8 c.args.s.state.control.mar =
-        search rules in
+    search rules in
     let mar : c.args.s.state.control.mar < memory_words =
-        of_memory (byte) in
+    of_memory (byte) in
     mar
 
 pub returns : goal.returns
 returns c =
     let byte : Fits w8 c.args.s.state.control.mar =
-        search (rules, c.well_formed) in
+    search (rules, c.well_formed) in
     let mar : c.args.s.state.control.mar < memory_words =
-        of_memory (byte) in
+    of_memory (byte) in
     let s = c in let a = s.args in
     let o = c.read_operands-o in
     let x = c.tick_text-text in

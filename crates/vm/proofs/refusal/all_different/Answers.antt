@@ -1,11 +1,9 @@
-use Prim.Native.Nat.{◌<◌, ◌-◌, zero-le}
+use Prim.Native.Nat.{◌<◌, zero-le}
 use native.Mathlib.Omega.{arith}
 use mathlib.Core.Path.{◌≡◌, sym}
-use mathlib.Core.Bool.{true}
 use borrow.Author.Rules.{rules}
-use lib.ListN.{length, get_or, take, length-set}
+use lib.ListN.{get_or, take, length-set}
 use Rattle.isa.specs.Sizes.{memory_words}
-use Rattle.trace.specs.Touched.{distinct}
 use Rattle.trace.proofs.Lists.{distinct_snoc}
 use Rattle.trace.proofs.Checks.{dup, split, one_more_lem, seen_next, is_seen, not_seen, empty_table, none_twice, none_there}
 use Rattle.vm.proofs.refusal.all_different.Goals as goal

@@ -1,7 +1,5 @@
-use Prim.Native.Nat.{◌-◌}
 use native.Mathlib.Omega.{arith}
 use mathlib.Core.Path.{◌≡◌}
-use lib.ListN.{length}
 use Rattle.trace.proofs.Checks.{short_none, short_next}
 use Rattle.vm.proofs.refusal.short_between.Goals as goal
 

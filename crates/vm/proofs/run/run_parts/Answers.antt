@@ -36,7 +36,7 @@ returns-in-Stop c =
 pub next_parts-t-requires : goal.next_parts-t-requires
 next_parts-t-requires c =
     let went : (let l = c.loop-stop in let a = c.args in verdict a.breakpoints.now l.begun (a.budget.0 - l.begun) (view (parts l.s l.memory l.registers l.touched l.columns l.numbers l.lengths)) ≡ go) =
-        sym c.run_verdict-verdict.ensures ∙ ap run_verdict_of c.in_default.is in
+    sym c.run_verdict-verdict.ensures ∙ ap run_verdict_of c.in_default.is in
     let l = c.loop-stop in
     let a = c.args in
     ((running a.breakpoints.now l.begun (a.budget.0 - l.begun) (view (parts l.s l.memory l.registers l.touched l.columns l.numbers l.lengths)) (went)).0, l.invariant.3)
@@ -44,9 +44,9 @@ next_parts-t-requires c =
 pub overflow_add-begun : goal.overflow_add-begun
 overflow_add-begun c =
     let went : (let l = c.loop-stop in let a = c.args in verdict a.breakpoints.now l.begun (a.budget.0 - l.begun) (view (parts l.s l.memory l.registers l.touched l.columns l.numbers l.lengths)) ≡ go) =
-        sym c.run_verdict-verdict.ensures ∙ ap run_verdict_of c.in_default.is in
+    sym c.run_verdict-verdict.ensures ∙ ap run_verdict_of c.in_default.is in
     let counts : c.loop-stop.begun < c.args.budget.0 =
-        let l = c.loop-stop in
+    let l = c.loop-stop in
     let a = c.args in
     omega (arith, (running a.breakpoints.now l.begun (a.budget.0 - l.begun) (view (parts l.s l.memory l.registers l.touched l.columns l.numbers l.lengths)) (went)).1, l.invariant.1) in
     omega (arith, counts, c.loop-stop.invariant.2)
@@ -54,9 +54,9 @@ overflow_add-begun c =
 pub forward_parts-f-requires : goal.forward_parts-f-requires
 forward_parts-f-requires c =
     let went : (let l = c.loop-stop in let a = c.args in verdict a.breakpoints.now l.begun (a.budget.0 - l.begun) (view (parts l.s l.memory l.registers l.touched l.columns l.numbers l.lengths)) ≡ go) =
-        sym c.run_verdict-verdict.ensures ∙ ap run_verdict_of c.in_default.is in
+    sym c.run_verdict-verdict.ensures ∙ ap run_verdict_of c.in_default.is in
     let counts : c.loop-stop.begun < c.args.budget.0 =
-        let l = c.loop-stop in
+    let l = c.loop-stop in
     let a = c.args in
     omega (arith, (running a.breakpoints.now l.begun (a.budget.0 - l.begun) (view (parts l.s l.memory l.registers l.touched l.columns l.numbers l.lengths)) (went)).1, l.invariant.1) in
     let t = c.next_parts-t.ensures in (t.ends, t.fit.touched, omega (arith, counts))
@@ -64,9 +64,9 @@ forward_parts-f-requires c =
 pub overflow_add-begun-in-loop-stop : goal.overflow_add-begun-in-loop-stop
 overflow_add-begun-in-loop-stop c =
     let went : (let l = c.loop-stop in let a = c.args in verdict a.breakpoints.now l.begun (a.budget.0 - l.begun) (view (parts l.s l.memory l.registers l.touched l.columns l.numbers l.lengths)) ≡ go) =
-        sym c.run_verdict-verdict.ensures ∙ ap run_verdict_of c.in_default.is in
+    sym c.run_verdict-verdict.ensures ∙ ap run_verdict_of c.in_default.is in
     let counts : c.loop-stop.begun < c.args.budget.0 =
-        let l = c.loop-stop in
+    let l = c.loop-stop in
     let a = c.args in
     omega (arith, (running a.breakpoints.now l.begun (a.budget.0 - l.begun) (view (parts l.s l.memory l.registers l.touched l.columns l.numbers l.lengths)) (went)).1, l.invariant.1) in
     omega (arith, counts, c.forward_parts-f.ensures.within, c.loop-stop.invariant.2)
@@ -74,9 +74,9 @@ overflow_add-begun-in-loop-stop c =
 pub loop-stop-smaller : goal.loop-stop-smaller
 loop-stop-smaller c =
     let went : (let l = c.loop-stop in let a = c.args in verdict a.breakpoints.now l.begun (a.budget.0 - l.begun) (view (parts l.s l.memory l.registers l.touched l.columns l.numbers l.lengths)) ≡ go) =
-        sym c.run_verdict-verdict.ensures ∙ ap run_verdict_of c.in_default.is in
+    sym c.run_verdict-verdict.ensures ∙ ap run_verdict_of c.in_default.is in
     let counts : c.loop-stop.begun < c.args.budget.0 =
-        let l = c.loop-stop in
+    let l = c.loop-stop in
     let a = c.args in
     omega (arith, (running a.breakpoints.now l.begun (a.budget.0 - l.begun) (view (parts l.s l.memory l.registers l.touched l.columns l.numbers l.lengths)) (went)).1, l.invariant.1) in
     omega (arith, counts, c.forward_parts-f.ensures.within)
@@ -84,9 +84,9 @@ loop-stop-smaller c =
 pub loop-stop-preserved : goal.loop-stop-preserved
 loop-stop-preserved c =
     let went : (let l = c.loop-stop in let a = c.args in verdict a.breakpoints.now l.begun (a.budget.0 - l.begun) (view (parts l.s l.memory l.registers l.touched l.columns l.numbers l.lengths)) ≡ go) =
-        sym c.run_verdict-verdict.ensures ∙ ap run_verdict_of c.in_default.is in
+    sym c.run_verdict-verdict.ensures ∙ ap run_verdict_of c.in_default.is in
     let counts : c.loop-stop.begun < c.args.budget.0 =
-        let l = c.loop-stop in
+    let l = c.loop-stop in
     let a = c.args in
     omega (arith, (running a.breakpoints.now l.begun (a.budget.0 - l.begun) (view (parts l.s l.memory l.registers l.touched l.columns l.numbers l.lengths)) (went)).1, l.invariant.1) in
     let l = c.loop-stop in

@@ -2,7 +2,6 @@
 -- Assumes nothing.
 use Prim.Native.Nat.{◌≤◌, ◌<◌, ◌-◌}
 use mathlib.Core.Path.{◌≡◌}
-use Rattle.guard.specs.Stops.{stop, go}
 use Rattle.vm.specs.Run.{run}
 use Rattle.vm.specs.View.{parts, view}
 use Rattle.vm.specs.Forms.{Fit}

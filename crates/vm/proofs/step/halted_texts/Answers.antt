@@ -1,6 +1,5 @@
 -- The texts are what the calls answer.
 -- Assumes nothing.
-use borrow.Author.Rules.{rules}
 use Rattle.vm.proofs.step.halted_texts.Goals as goal
 
 -- NO GOAL: slice-aggregate-from-bytes : tie.Need-slice-aggregate-from-bytes

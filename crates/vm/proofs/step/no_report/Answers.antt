@@ -1,6 +1,5 @@
 -- The text is what the call answers.
 -- Assumes nothing.
-use borrow.Author.Rules.{rules}
 use Rattle.vm.proofs.step.no_report.Goals as goal
 
 -- NO GOAL: slice-aggregate-from-bytes : tie.Need-slice-aggregate-from-bytes

@@ -6,7 +6,6 @@ use mathlib.Core.List.{[]}
 use Rattle.isa.specs.Text.{text}
 use Rattle.trace.specs.Trace.{live_texts, texts_in}
 use Rattle.vm.proofs.Newest.{texts-length, newest_past, newest_at}
-use borrow.Author.Rules.{rules}
 use Rattle.vm.proofs.texts.newest_text.Goals as goal
 
 -- NO GOAL: slice-aggregate-from-bytes : tie.Need-slice-aggregate-from-bytes

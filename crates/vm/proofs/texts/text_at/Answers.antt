@@ -1,7 +1,7 @@
-use Prim.Native.Nat.{◌-◌, ◌*◌}
+use Prim.Native.Nat.{◌*◌}
 use native.Mathlib.Omega.{arith}
 use mathlib.Core.Path.{◌≡◌, refl, sym, ◌∙◌}
-use lib.ListN.{length, get_or, take, drop, length-set}
+use lib.ListN.{get_or, take, drop, length-set}
 use lib.Seq.{take_all}
 use Rattle.trace.specs.Trace.{texts_in}
 use Rattle.trace.proofs.Rings.{text_at_lem}

@@ -1,6 +1,5 @@
 -- The answer by the test on the refusal.
 -- Assumes nothing.
-use borrow.Author.Rules.{rules}
 use borrow.Author.Tests.{eq-eqb, ne_eqb}
 use Rattle.vm.proofs.machine.Machine.disassemble_at.Goals as goal
 
