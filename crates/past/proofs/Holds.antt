@@ -28,7 +28,7 @@ use Rattle.vm.specs.History.{store_refusal, undo_refusal, saved, restored, undon
 use Rattle.vm.specs.Run.{verdict, RunEnd, run_end, run as run_of}
 use Rattle.vm.specs.Calls.{view_of, is_machine, step_refusal_of, restarted, serve}
 use Rattle.vm.proofs.Forgets.{few-pushed}
-use Rattle.vm.proofs.Ticks.{text_field}
+use Rattle.vm.proofs.TickLaws.{text_field}
 use Rattle.past.specs.Past.{Call, tick, step, run, push, undo, made, left, Past, reset, call}
 use Rattle.past.specs.Played.{texts, holding, after, played, ticks_of}
 

@@ -41,7 +41,7 @@ use Rattle.vm.specs.Guard.{Guarded, guarded_step, guarded_end, guard, guarded_ru
 use Rattle.marks.specs.Owners.{hidden_from}
 use Rattle.guard.specs.Input.{Input}
 use Rattle.trace.proofs.Lists.{few, below_of, distinct_snoc}
-use Rattle.vm.proofs.Ticks.{short-text}
+use Rattle.vm.proofs.TickLaws.{short-text}
 use Rattle.secret.specs.Report.{no_record}
 use Rattle.secret.proofs.Accepts.{append_below}
 

@@ -28,7 +28,7 @@ use Rattle.direct.proofs.Words.{named, sends}
 use Rattle.vm.specs.Machine.{Machine}
 use Rattle.vm.specs.Instruction.{Steps, step_instruction}
 use Rattle.vm.specs.Direct.{light_of, last_done, direct_on, direct}
-use Rattle.vm.proofs.Ticks.{text_field, short-text}
+use Rattle.vm.proofs.TickLaws.{text_field, short-text}
 use Rattle.vm.proofs.TickTurns.{at}
 use Rattle.vm.proofs.Direct.{direct-steps}
 

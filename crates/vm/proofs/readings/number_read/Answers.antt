@@ -1,0 +1,10 @@
+-- The answer by the test on the refusal.
+-- Assumes nothing.
+use borrow.Author.Tests.{eq-eqb, ne_eqb}
+use Rattle.vm.proofs.readings.number_read.Goals as goal
+
+pub returns-then-refused-eq0 : goal.returns-then-refused-eq0
+returns-then-refused-eq0 c = rw (eq-eqb _ _ c.if-refused-eq0.true)
+
+pub returns : goal.returns
+returns c = rw (ne_eqb _ _ c.if-refused-eq0.false)
