@@ -7,8 +7,8 @@ ghost use Rattle.encoding.specs.Answer.{outcome};
 ghost use Rattle.massey_listing.specs.Answer.{program_outcome};
 
 use answer::{first, put_refusal, read_input};
-use libc::{STDIN_FILENO, STDOUT_FILENO};
 use listing::{Listed, list_bytes};
+use std::io::{Result, Write};
 
 // The bytes that decide every answer: one word more than an image may have. What is longer is
 // refused alike, so the rest need not be read.
@@ -31,11 +31,11 @@ fn put_answer(input: &[u8], whole: bool, out: &mut [u8]) -> usize
     }
 }
 
-fn main() {
+fn main(rt: HostRuntime) -> Result<()> {
     let mut buf = [0u8; INPUT];
-    let input = read_input(STDIN_FILENO, &mut buf);
+    let input = read_input(&mut rt.stdin(), &mut buf);
     let n = input.len;
     let mut out = [0u8; LISTING];
     let size = put_answer(&buf[..n], input.whole, &mut out);
-    io::write_all(STDOUT_FILENO, first(&out, size));
+    rt.stdout().write_all(first(&out, size))
 }
