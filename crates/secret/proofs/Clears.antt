@@ -7,9 +7,9 @@ use mathlib.Core.List.{List, [], ◌∷◌}
 use borrow.Author.Tests.{eqb-true, leb-true}
 use lib.Bits.{bit_xor, xor_self}
 use lib.ListN.{get_or, set}
-use Rattle.isa.specs.declared.opcode.Opcode.TheVariants.{ShiftRight, ShiftLeft, Xor}
+use Rattle.isa.specs.declared.opcode.Opcode.TheVariants.{LoadImmediate, LoadRegister, LoadMemory, StoreMemory, Add, Negate, ShiftRight, ShiftLeft, And, Or, Xor, Jump, Halt}
 use Rattle.isa.specs.declared.opcode.Decoded.{Decoded}
-use Rattle.isa.specs.declared.opcode.Decoded.TheVariants.{Known}
+use Rattle.isa.specs.declared.opcode.Decoded.TheVariants.{Known, Unknown}
 use Rattle.isa.specs.Word.{decode_word, digit_x, digit_y, digit_z, byte_yz}
 use Rattle.tick.specs.Tick.{execute_tick, right16, left16}
 use Rattle.tick.proofs.Shifts.{shift_out}
@@ -45,6 +45,17 @@ unfolding finished decoded execute_tick
 finished_zero (Known Xor) p a (xor e) = set-zero a.registers (digit_x p.ir) (xor_cleared p.ir a.registers e)
 finished_zero (Known ShiftRight) p a (right e) = set-zero a.registers (digit_x p.ir) (shift_cleared p.ir _ e).0
 finished_zero (Known ShiftLeft) p a (left e) = set-zero a.registers (digit_x p.ir) (shift_cleared p.ir _ e).1
+finished_zero (Known LoadImmediate) p a c = elim c [ ]
+finished_zero (Known LoadRegister) p a c = elim c [ ]
+finished_zero (Known LoadMemory) p a c = elim c [ ]
+finished_zero (Known StoreMemory) p a c = elim c [ ]
+finished_zero (Known Add) p a c = elim c [ ]
+finished_zero (Known Negate) p a c = elim c [ ]
+finished_zero (Known And) p a c = elim c [ ]
+finished_zero (Known Or) p a c = elim c [ ]
+finished_zero (Known Jump) p a c = elim c [ ]
+finished_zero (Known Halt) p a c = elim c [ ]
+finished_zero Unknown p a c = elim c [ ]
 
 -- of every machine between two instructions, the next of which clears register x: x holds 0 behind it
 pub cleared-zero : (m : Machine) → m.state.control.tick ≡ 0 → let w = next_word m in Clears w (decode_word w) → get_or (step_instruction m).machine.registers (digit_x w) 0 ≡ 0
@@ -58,6 +69,17 @@ opened : (w : ℕ) (d : Decoded) (k : Marks) → Clears w d → register_mark (d
 opened w (Known Xor) k (xor e) = set-zero k.registers (digit_x w) (rw e)
 opened w (Known ShiftRight) k (right e) = set-zero k.registers (digit_x w) (rw e)
 opened w (Known ShiftLeft) k (left e) = set-zero k.registers (digit_x w) (rw e)
+opened w (Known LoadImmediate) k c = elim c [ ]
+opened w (Known LoadRegister) k c = elim c [ ]
+opened w (Known LoadMemory) k c = elim c [ ]
+opened w (Known StoreMemory) k c = elim c [ ]
+opened w (Known Add) k c = elim c [ ]
+opened w (Known Negate) k c = elim c [ ]
+opened w (Known And) k c = elim c [ ]
+opened w (Known Or) k c = elim c [ ]
+opened w (Known Jump) k c = elim c [ ]
+opened w (Known Halt) k c = elim c [ ]
+opened w Unknown k c = elim c [ ]
 
 -- and is open, whatever was marked
 pub cleared_open : (w : ℕ) (k : Marks) → Clears w (decode_word w) → register_mark (digit_x w) (instruction_marks w k) ≡ 0

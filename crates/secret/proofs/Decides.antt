@@ -8,7 +8,7 @@ use mathlib.Core.List.{List}
 use borrow.Author.Tests.{ltb-true, ltb-false, le-leb, lt-ltb, ne_eqb}
 use lib.Dec.{ltb}
 use lib.ListN.{length, take, drop, length-take}
-use lib.Seq.{length-take-le, take_all, take-add, take-take, drop_at, get_or-take}
+use lib.Seq.{length-take-le, take_all, take-add, drop_at, get_or-take}
 use Rattle.encoding.specs.Bytes.{number, read_number, written}
 use Rattle.encoding.proofs.Written.{take-over, written-fits, length-written}
 use Rattle.secret.specs.Widths.{report_limit}

@@ -2,7 +2,6 @@
 // demand 3 among them, are proved in seconds; the code is in `report`.
 #![tactic(auto)]
 
-
 // What the call for a report answers: the report's length, or the number of the refusal.
 #[derive(Drop)]
 pub enum Reported {
