@@ -7,6 +7,7 @@ use borrow.Author.Tests.{eq-eqb}
 use contract.Lifetimes.{Lfts}
 use lib.ListN.{length}
 use denote.Ref.{Bor}
+use denote.MutBor.{MutBor}
 use Rattle.guard.specs.Input.{input_from, input_refusal}
 use Rattle.guard.specs.declared.stops.Begun.{Begun}
 use Rattle.vm.specs.declared.machine.Machine.{Machine as Code}
@@ -53,7 +54,7 @@ pub direct-run_leaves : (κs : Lfts 1) (m : Code) (n : Begun) (b : Bor (List ℕ
 unfolding left
 direct-run_leaves κs m n b r e p = ap (λ x. x.machine) p.0
 
-pub push-history_leaves : (κs : Lfts 1) (m : Code) (d : Bor (List ℕ)) (r : Served) (e : _) → push-history.Learnt κs (m, (d, tt)) r e → view_of r.machine ≡ left (push d.now) m
+pub push-history_leaves : (κs : Lfts 1) (m : Code) (d : MutBor (List ℕ)) (r : Served) (e : _) → push-history.Learnt κs (m, (d, tt)) r e → view_of r.machine ≡ left (push d.now) m
 unfolding left
 push-history_leaves κs m d r e p = ap (λ (x : Served). view_of x.machine) p.0
 
