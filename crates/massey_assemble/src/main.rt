@@ -8,7 +8,7 @@ ghost use Rattle.massey_assemble.specs.Answer.{program_outcome};
 
 use answer::{first, put_refusal, read_input};
 use assemble::{Built, assemble_bytes};
-use libc::{STDIN_FILENO, STDOUT_FILENO};
+use std::io::{Result, Write};
 
 // The longest text that the program takes; the call takes any.
 const TEXT: usize = 262144;
@@ -36,11 +36,11 @@ fn put_answer(text: &[u8], whole: bool, out: &mut [u8]) -> usize
     }
 }
 
-fn main() {
+fn main(rt: HostRuntime) -> Result<()> {
     let mut buf = [0u8; INPUT];
-    let input = read_input(STDIN_FILENO, &mut buf);
+    let input = read_input(&mut rt.stdin(), &mut buf);
     let n = input.len;
     let mut out = [0u8; IMAGE];
     let size = put_answer(&buf[..n], input.whole, &mut out);
-    io::write_all(STDOUT_FILENO, first(&out, size));
+    rt.stdout().write_all(first(&out, size))
 }
