@@ -5,7 +5,7 @@ use crate::calls::reply;
 use crate::output::write_malformed;
 use answer::first;
 use encoding::get_number;
-use libc::STDOUT_FILENO;
+use std::io::{Result, Write};
 use vm::Machine;
 
 // The count in two bytes, 0 where they are not both there. The remainder says that it is small.
@@ -42,20 +42,23 @@ fn whole_length(rest: &[u8]) -> usize
 
 // Plays the commands to the input's end, to the first that is malformed, or to the first answer that
 // is not taken whole: what was written is then the beginning of what was due.
-pub(crate) fn play(commands: &[u8], store: &mut [u8], out: &mut [u8]) {
+pub(crate) fn play<W: Write>(
+    to: &mut W,
+    commands: &[u8],
+    store: &mut [u8],
+    out: &mut [u8],
+) -> Result<()> {
     let mut machine = Machine::new();
     let mut rest = commands;
     while 0 < rest.len() {
         let n = whole_length(rest);
         if n == 0 {
-            write_malformed();
-            return;
+            return write_malformed(to);
         }
         let replied = reply(machine, first(rest, n), store, out);
-        if !io::write_all(STDOUT_FILENO, first(out, replied.len)) {
-            return;
-        }
+        to.write_all(first(out, replied.len))?;
         machine = replied.machine;
         rest = &rest[n..];
     }
+    Ok(())
 }

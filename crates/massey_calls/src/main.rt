@@ -11,8 +11,8 @@ mod state;
 
 use answer::read_input;
 use encoding::get_number;
-use libc::STDIN_FILENO;
 use output::write_malformed;
+use std::io::{Result, Write};
 
 // The longest input that is played, and one byte more, by which a longer one is noticed.
 const INPUT: usize = 262145;
@@ -24,31 +24,28 @@ const STORE: u64 = 65536;
 const ANSWER: usize = 88932;
 
 // Plays an input that begins as it should: its first four bytes are the store's length.
-fn play(input: &[u8]) {
+fn play<W: Write>(to: &mut W, input: &[u8]) -> Result<()> {
     if input.len() < 4 {
-        write_malformed();
-        return;
+        return write_malformed(to);
     }
     let size = get_number(input, 0, 4);
     if STORE < size {
-        write_malformed();
-        return;
+        return write_malformed(to);
     }
     let len = size as usize;
     let mut store = io::large_buffer();
     let mut out = [0u8; ANSWER];
-    list::play(&input[4..], &mut store[0..len], &mut out);
+    list::play(to, &input[4..], &mut store[0..len], &mut out)
 }
 
 // An input that is too long is malformed from its start, and so is one that could not be read to its
 // end.
-fn main() {
+fn main(rt: HostRuntime) -> Result<()> {
     let mut input = [0u8; INPUT];
-    let got = read_input(STDIN_FILENO, &mut input);
+    let got = read_input(&mut rt.stdin(), &mut input);
     let n = got.len;
     if n == INPUT || !got.whole {
-        write_malformed();
-        return;
+        return write_malformed(&mut rt.stdout());
     }
-    play(&input[..n]);
+    play(&mut rt.stdout(), &input[..n])
 }

@@ -2,7 +2,7 @@
 // it is written at once or not at all.
 use encoding::{put_bytes, put_words};
 use isa::MEMORY_WORDS;
-use libc::STDOUT_FILENO;
+use std::io::{Result, Write};
 
 // Puts `bytes` behind the first `at` of `out`, and tells where the next go. Where they do not fit,
 // nothing is put, so that no caller has to count the room.
@@ -27,6 +27,6 @@ pub(crate) fn append_words(out: &mut [u8], at: usize, words: [u16; MEMORY_WORDS]
 }
 
 // Behind the answers so far: what comes next in the input is malformed.
-pub(crate) fn write_malformed() {
-    io::write_all(STDOUT_FILENO, b"\xff");
+pub(crate) fn write_malformed<W: Write>(to: &mut W) -> Result<()> {
+    to.write_all(b"\xff")
 }

@@ -7,8 +7,8 @@ ghost use Rattle.encoding.specs.Answer.{outcome};
 ghost use Rattle.massey_report.specs.Answer.{program_outcome};
 
 use answer::{first, put_refusal, read_input};
-use libc::{STDIN_FILENO, STDOUT_FILENO};
 use report::{INPUT_LENGTH, REPORT_LENGTH, Reported, report_bytes};
+use std::io::{Result, Write};
 
 // Puts the answer to an input at the start of `out`, where it fits; what is answered is its length.
 // `whole` says that no read failed: a failed one is no end of the input, which may go on, so that it is
@@ -27,11 +27,11 @@ fn put_answer(input: &[u8], whole: bool, out: &mut [u8]) -> usize
 }
 
 // The bytes behind those that decide every answer need not be read.
-fn main() {
+fn main(rt: HostRuntime) -> Result<()> {
     let mut buf = [0u8; INPUT_LENGTH];
-    let input = read_input(STDIN_FILENO, &mut buf);
+    let input = read_input(&mut rt.stdin(), &mut buf);
     let n = input.len;
     let mut out = [0u8; REPORT_LENGTH];
     let size = put_answer(&buf[..n], input.whole, &mut out);
-    io::write_all(STDOUT_FILENO, first(&out, size));
+    rt.stdout().write_all(first(&out, size))
 }

@@ -13,9 +13,9 @@ mod state;
 mod text;
 mod word;
 
-use answer::{first, put_counts};
-use libc::{STDIN_FILENO, STDOUT_FILENO};
+use answer::{first, put_counts, read_input};
 use replay::word_at;
+use std::io::{Read, Result, Write};
 
 // Room for the line of the largest counts, of 57 bytes.
 const LINE: usize = 64;
@@ -54,9 +54,9 @@ fn passes(record: &[u8]) -> bool {
 }
 
 // Fills `body` with a record and tests it. Where the list ends within it, what was there failed.
-fn body_verdict(body: &mut [u8]) -> Verdict {
-    let got = io::read_full(STDIN_FILENO, body);
-    if got < body.len() {
+fn body_verdict<R: Read>(from: &mut R, body: &mut [u8]) -> Verdict {
+    let got = read_input(from, body);
+    if got.len < body.len() {
         return Verdict::Failed;
     }
     if passes(body) {
@@ -69,48 +69,48 @@ fn body_verdict(body: &mut [u8]) -> Verdict {
 // The next record. `buffer` has room for the longest that two bytes of length can announce, so that
 // a record of any length is read whole, and the next begins where it should. A read that fails is
 // taken for the list's end.
-fn next_verdict(buffer: &mut [u8]) -> Verdict {
+fn next_verdict<R: Read>(from: &mut R, buffer: &mut [u8]) -> Verdict {
     let mut head = [0u8; 2];
-    let got = io::read_full(STDIN_FILENO, &mut head);
-    if got == 0 {
+    let got = read_input(from, &mut head);
+    if got.len == 0 {
         return Verdict::End;
     }
-    if got < 2 {
+    if got.len < 2 {
         return Verdict::Failed;
     }
     let n = word_at(&head, 0) as usize;
     if buffer.len() < n {
         return Verdict::Failed;
     }
-    body_verdict(&mut buffer[0..n])
+    body_verdict(from, &mut buffer[0..n])
 }
 
 // The line that the program writes.
-fn print_counts(passed: u64, failed: u64) {
+fn print_counts<W: Write>(to: &mut W, passed: u64, failed: u64) -> Result<()> {
     let mut line = [0u8; LINE];
     let n = put_counts(&mut line, passed, failed);
-    io::write_all(STDOUT_FILENO, first(&line, n));
+    to.write_all(first(&line, n))
 }
 
 // Counts the records to the list's end. A proved loop has to end, and nothing says that the input
 // does, so it counts its turns down, from a number that no run uses up.
-fn replay(buffer: &mut [u8]) {
+fn replay<R: Read, W: Write>(from: &mut R, to: &mut W, buffer: &mut [u8]) -> Result<()> {
     let mut passed: u64 = 0;
     let mut failed: u64 = 0;
     let mut turns = u64::MAX;
     while turns > 0 {
         turns -= 1;
-        let verdict = next_verdict(buffer);
+        let verdict = next_verdict(from, buffer);
         match verdict {
             Verdict::Passed => passed += 1,
             Verdict::Failed => failed += 1,
             Verdict::End => turns = 0,
         }
     }
-    print_counts(passed, failed);
+    print_counts(to, passed, failed)
 }
 
-fn main() {
+fn main(rt: HostRuntime) -> Result<()> {
     let mut buffer = io::large_buffer();
-    replay(&mut buffer);
+    replay(&mut rt.stdin(), &mut rt.stdout(), &mut buffer)
 }
