@@ -1,5 +1,5 @@
 -- The two refusals of the program and the two answers of the call on bytes, each by its law.
-use Rattle.std.proofs.Common.{Bool, true, false, arith}
+use Rattle.std.proofs.Common.{arith}
 use Rattle.massey_assemble.proofs.Answers.{written-answer, refused-answer, not_whole, too_long}
 use Rattle.massey_assemble.proofs.put_answer.Goals as goal
 
@@ -8,18 +8,18 @@ returns-then-not-whole c =
     let s = c.args in
     rw (c.if-not-whole.true) (not_whole s.text.now s.out.now c.put_refusal.ensures)
 
-pub returns-then-TEXT-text : goal.returns-then-TEXT-text
-returns-then-TEXT-text c =
+pub returns-then-text-gt-TEXT : goal.returns-then-text-gt-TEXT
+returns-then-text-gt-TEXT c =
     let s = c.args in
-    rw (c.if-not-whole.false) (too_long s.text.now s.out.now (omega (arith, c.if-TEXT-text.true)) c.put_refusal-then-TEXT-text.ensures)
+    rw (c.if-not-whole.false) (too_long s.text.now s.out.now (omega arith) c.put_refusal-then-text-gt-TEXT.ensures)
 
 pub returns-in-Written : goal.returns-in-Written
 returns-in-Written c =
     let s = c.args in
-    rw (c.if-not-whole.false) (written-answer s.text.now s.out.now c.in-Written.size (omega (arith, c.if-TEXT-text.false)) c.in-Written.ensures)
+    rw (c.if-not-whole.false) (written-answer s.text.now s.out.now c.in-Written.size (omega arith) c.in-Written.ensures)
 
 pub returns-in-Refused : goal.returns-in-Refused
 returns-in-Refused c =
     let s = c.args in
     rw (c.if-not-whole.false)
-    (refused-answer s.text.now s.out.now c.in-Refused.number (omega (arith, c.if-TEXT-text.false)) c.in-Refused.ensures c.put_refusal-in-Refused.ensures)
+    (refused-answer s.text.now s.out.now c.in-Refused.number (omega arith) c.in-Refused.ensures c.put_refusal-in-Refused.ensures)
