@@ -8,7 +8,7 @@ fn main() {
     let file = folder.join("libmassey_bench.a");
     assert!(
         file.is_file(),
-        "{} is not there: run `rt staticlib massey_bench`, or set MASSEY_ARCHIVE_DIR",
+        "{} is not there: run `tools/build massey_bench`, or set MASSEY_ARCHIVE_DIR",
         file.display()
     );
     println!("cargo:rustc-link-search=native={}", folder.display());

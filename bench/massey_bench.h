@@ -1,4 +1,4 @@
-/* The calls of libmassey_bench.a (rt staticlib massey_bench), for timing. Those
+/* The calls of libmassey_bench.a (tools/build massey_bench), for timing. Those
  * with an image load its whole words, of which the first 256 count, on a new
  * machine, put one of the machine's calls to work so many times, and answer a
  * number that shows what was done; none is refused. A pointer and the number

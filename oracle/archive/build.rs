@@ -7,7 +7,7 @@ fn main() {
     let file = folder.join("libmassey.a");
     assert!(
         file.is_file(),
-        "{} is not there: run `rt staticlib massey`, or set MASSEY_ARCHIVE_DIR",
+        "{} is not there: run `tools/build massey`, or set MASSEY_ARCHIVE_DIR",
         file.display()
     );
     println!("cargo:rustc-link-search=native={}", folder.display());

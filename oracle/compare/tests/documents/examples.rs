@@ -2,13 +2,13 @@
 
 use crate::{document, root};
 use std::env;
-use std::fs;
-use std::os::unix::fs::symlink;
+use std::fs::{self, Permissions};
+use std::os::unix::fs::{PermissionsExt, symlink};
 use std::path::{Path, PathBuf};
 use std::process::{Command, Output};
 
-/// What `rt` makes is there already.
-const BUILT: &str = "rt() { :; }\n";
+/// What `tools/build` makes is there already.
+const BUILT: &str = "#!/bin/sh\n";
 
 /// A command as a document shows it, and what it is said to write.
 struct Example {
@@ -71,12 +71,16 @@ fn folder(name: &str) -> PathBuf {
     fs::create_dir_all(folder.join("target")).expect("a folder can be made");
     link(Path::new(&programs), &folder.join("target/bin"));
     link(Path::new("crates"), &folder.join("crates"));
+    let build = folder.join("tools/build");
+    fs::create_dir_all(folder.join("tools")).expect("a folder can be made");
+    fs::write(&build, BUILT).expect("a file can be made");
+    fs::set_permissions(&build, Permissions::from_mode(0o755)).expect("it is the test's own");
     folder
 }
 
 fn run(script: &str, folder: &Path) -> Output {
     Command::new("/bin/sh")
-        .args(["-c", &format!("{BUILT}{script}")])
+        .args(["-c", script])
         .current_dir(folder)
         .env("LC_ALL", "C")
         .output()
