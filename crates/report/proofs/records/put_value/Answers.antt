@@ -11,7 +11,7 @@ shape_of-out c =
     let p = c in
     let q = p in
     let a = q.args in
-    p.put_bytes.auto.0 ∙ q.put_number.auto.0 ∙ length-set a.out.now a.at a.kind
+    p.put_bytes.auto.out ∙ q.put_number.auto.out ∙ length-set a.out.now a.at a.kind
 
 pub returns : goal.returns
 returns c =

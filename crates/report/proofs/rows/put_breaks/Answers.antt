@@ -21,7 +21,7 @@ loop-i-preserved c =
     let s = a.args in
     let x = s.list.now in (
       omega arith,
-      p.put_byte.auto.0 ∙ l.invariant.1,
+      p.put_byte.auto.out ∙ l.invariant.1,
       rw p.put_byte.ensures (each_turn break_length (piece x) l.out s.at l.i (length x) refl (omega arith) (omega arith) ∙ l.invariant.2),
     )
 

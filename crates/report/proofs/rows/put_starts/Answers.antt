@@ -27,7 +27,7 @@ loop-i-preserved c =
     let v = s.image.now in
     let m = s.marks.now in (
       omega arith,
-      p.put_start.auto.0 ∙ l.invariant.1,
+      p.put_start.auto.out ∙ l.invariant.1,
       rw (p.put_start.ensures, w.word_at-word.ensures, ← words_at v l.i (omega arith))
           (each_turn start_length (piece s.clearance v m) l.out head_length l.i 256 (length-start (hidden_from s.clearance) l.i (get_or m l.i 0) (get_or (image_words v) l.i 0)) (omega arith) (omega arith) ∙ l.invariant.2),
     )

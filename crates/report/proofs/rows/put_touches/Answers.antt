@@ -26,7 +26,7 @@ loop-i-preserved c =
     let s = a.args in
     let x = s.list.now in (
       omega arith,
-      p.put_numbered.auto.0 ∙ l.invariant.1,
+      p.put_numbered.auto.out ∙ l.invariant.1,
       rw p.put_numbered.ensures (each_turn touched_length (piece x) l.out s.at l.i (length x) (length-touched (get_or x l.i 0)) (omega arith) (omega arith) ∙ l.invariant.2),
     )
 

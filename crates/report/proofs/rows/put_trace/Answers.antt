@@ -31,7 +31,7 @@ loop-i-preserved c =
     let k = (s.start % 512 + l.i) % 512 in
     let e : k * 32 + 32 - k * 32 ≡ 32 = omega arith in (
       omega arith,
-      p.put_traced.auto.0 ∙ l.invariant.1,
+      p.put_traced.auto.out ∙ l.invariant.1,
       rw (p.put_traced.ensures, e)
           (each_turn 43 f l.out s.at l.i s.n (length_slot s.columns.now s.numbers.now ((s.start % 512 + l.i) % 512) b.requires.1 (omega arith)) (omega arith) (omega arith) ∙ l.invariant.2),
     )

@@ -13,15 +13,10 @@ use Rattle.secret.proofs.Shows.{length-value}
 use borrow.Author.Rules.{rules}
 use Rattle.report.proofs.rows.put_values.Invariants.{piece}
 use Rattle.report.proofs.rows.put_values.Goals as goal
-use Rattle.report.proofs.rows.put_values.Goals.{Start}
 
 -- so much room is left before turn i
 room : (w at len : ℕ) {i n : ℕ} → i < n → at + w * n ≤ len → at + w * i + w ≤ len
 room w at len {i} h k = let m = mul-le-mul_left w h in omega arith
-
--- the same from the function's start
-left : (s : Start) {i : ℕ} → i < length s.args.values.now → s.args.at + value_length s.args.width * i + value_length s.args.width ≤ length s.args.out.now
-left s h = room (value_length s.args.width) s.args.at (length s.args.out.now) h s.requires.0
 
 pub loop-i-init : goal.loop-i-init
 loop-i-init c = (search rules, refl, rw (mul-zero, add-zero, sub-zero))
@@ -30,23 +25,23 @@ pub overflow_mul-size : goal.overflow_mul-size
 overflow_mul-size c =
     let long : length c.args.out.now < 18446744073709551616 =
         search rules in
-    let s = c in
-    let r = left s.before.before.before.before.before.before {i = c.loop-i.i} (omega arith) in
+    let h : c.loop-i.i < length c.args.values.now = omega arith in
+    let r = room (value_length c.args.width) c.args.at (length c.args.out.now) h c.requires.0 in
     omega (arith, r, long)
 
 pub overflow_add-at : goal.overflow_add-at
 overflow_add-at c =
     let long : length c.args.out.now < 18446744073709551616 =
         search rules in
-    let s = c in
-    let r = left s.before.before.before.before.before.before {i = c.loop-i.i} (omega arith) in
+    let h : c.loop-i.i < length c.args.values.now = omega arith in
+    let r = room (value_length c.args.width) c.args.at (length c.args.out.now) h c.requires.0 in
     omega (arith, r, long)
 
 pub put_value-requires : goal.put_value-requires
 put_value-requires c =
-    let s = c in
     let l = c.loop-i in
-    let r = left s.before.before.before.before.before.before.before.before {i = l.i} (omega arith) in
+    let h : l.i < length c.args.values.now = omega arith in
+    let r = room (value_length c.args.width) c.args.at (length c.args.out.now) h c.requires.0 in
     omega (arith, r, l.invariant.1)
 
 pub loop-i-preserved : goal.loop-i-preserved
@@ -58,7 +53,7 @@ loop-i-preserved c =
     let v = s.values.now in
     let m = s.marks.now in (
       omega arith,
-      p.put_value.auto.0 ∙ l.invariant.1,
+      p.put_value.auto.out ∙ l.invariant.1,
       rw p.put_value.ensures (each_turn (value_length s.width) (piece s.clearance s.kind s.width v m) l.out s.at l.i (length v)
           (length-value (hidden_from s.clearance) s.kind (big_endian s.width l.i) (get_or m l.i 0) (get_or v l.i 0) (length-big_endian s.width l.i)) (omega arith) (omega arith) ∙ l.invariant.2),
     )
