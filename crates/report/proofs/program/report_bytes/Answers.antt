@@ -11,21 +11,16 @@ use Rattle.report.proofs.program.report_bytes.Goals as goal
 
 pub slice_bounds-copy-end : goal.slice_bounds-copy-end
 slice_bounds-copy-end c =
-    let p = c in
-    let d = p in
-    copy_fits d.args.input.now (replicate input_length 0) refl d.deciding-part.ensures p.put_bytes.ensures
+    copy_fits c.args.input.now (replicate input_length 0) refl c.deciding-part.ensures c.put_bytes.ensures
 
 pub slice_bounds-report_parts-end : goal.slice_bounds-report_parts-end
-slice_bounds-report_parts-end c = sym (length-take-le _ _ (slice_bounds-copy-end c.before))
+slice_bounds-report_parts-end c =
+    sym (length-take-le _ _ (copy_fits c.args.input.now (replicate input_length 0) refl c.deciding-part.ensures c.put_bytes.ensures))
 
 pub returns : goal.returns
 returns c =
-    let r = c in
-    let p = r in
-    let d = p in
-    let a = d.args in
-    let b = a.input.now in
-    let out = a.out.now in
-    r.report_parts.ensures
-    ∙ ap (λ (x : List ℕ). bytes_outcome x out) (copied b (replicate input_length 0) refl d.deciding-part.ensures p.put_bytes.ensures)
+    let b = c.args.input.now in
+    let out = c.args.out.now in
+    c.report_parts.ensures
+    ∙ ap (λ (x : List ℕ). bytes_outcome x out) (copied b (replicate input_length 0) refl c.deciding-part.ensures c.put_bytes.ensures)
     ∙ first_decide b out

@@ -7,187 +7,121 @@ use mathlib.Core.Path.{◌≡◌, sym, ap, ◌∙◌}
 use borrow.Author.Tests.{eqb-true}
 use lib.ListN.{length, drop, get_or, replicate, length-append}
 use lib.Seq.{length-take-le, take_at}
-use Rattle.encoding.specs.Bytes.{numbers}
+use Rattle.encoding.specs.Bytes.{read_number, numbers}
 use Rattle.encoding.proofs.Numbers.{length-numbers, read_below}
 use Rattle.guard.specs.Input.{Input}
 use Rattle.secret.specs.Outcome.{report_outcome}
-use Rattle.secret.specs.Program.{count_at, length_due, bytes_refusal}
+use Rattle.secret.specs.Program.{length_due, bytes_refusal}
 use Rattle.secret.proofs.Programs.{all-passed, refusal_read, input_read, words_read, bytes-refused, bytes_served}
 use Rattle.report.proofs.program.report_parts.Goals as goal
-use Rattle.report.proofs.program.report_parts.Goals.{After-get_number-n, After-get_words}
-
--- the input, and how many words it says it has
-abbrev bytes : After-get_number-n → List ℕ
-bytes g = g.before.before.before.args.input.now
-
-abbrev size : After-get_number-n → ℕ
-size g = g.get_number.result
-
--- the words that were read
-abbrev read : After-get_words → List ℕ
-read w = w.get_words.new.1.1.0
-
-pub overflow_mul-marks_at : goal.overflow_mul-marks_at
-overflow_mul-marks_at c =
-    let small : (i : ℕ) → get_or (bytes c) i 0 < 256 =
-        (λ i. omega (arith, c.before.before.shared-slice-known.given i)) in
-    let size_below : size c < 65536 =
-        omega (arith, c.get_number.ensures, read_below (bytes c) 0 2 (small)) in
-    let h = size_below in omega arith
-
-pub overflow_add-marks_at : goal.overflow_add-marks_at
-overflow_add-marks_at c =
-    let small : (i : ℕ) → get_or (bytes c) i 0 < 256 =
-        (λ i. omega (arith, c.before.before.shared-slice-known.given i)) in
-    let size_below : size c < 65536 =
-        omega (arith, c.get_number.ensures, read_below (bytes c) 0 2 (small)) in
-    let h = size_below in omega arith
-
-pub overflow_add-budget_at : goal.overflow_add-budget_at
-overflow_add-budget_at c =
-    let small : (i : ℕ) → get_or (bytes c) i 0 < 256 =
-        (λ i. omega (arith, c.before.before.shared-slice-known.given i)) in
-    let size_below : size c < 65536 =
-        omega (arith, c.get_number.ensures, read_below (bytes c) 0 2 (small)) in
-    let h = size_below in omega arith
-
-pub overflow_add-count_at : goal.overflow_add-count_at
-overflow_add-count_at c =
-    let small : (i : ℕ) → get_or (bytes c) i 0 < 256 =
-        (λ i. omega (arith, c.before.before.shared-slice-known.given i)) in
-    let size_below : size c < 65536 =
-        omega (arith, c.get_number.ensures, read_below (bytes c) 0 2 (small)) in
-    let h = size_below in omega arith
-
-pub overflow_add-breaks_at : goal.overflow_add-breaks_at
-overflow_add-breaks_at c =
-    let small : (i : ℕ) → get_or (bytes c) i 0 < 256 =
-        (λ i. omega (arith, c.before.before.shared-slice-known.given i)) in
-    let size_below : size c < 65536 =
-        omega (arith, c.get_number.ensures, read_below (bytes c) 0 2 (small)) in
-    let h = size_below in omega arith
-
-pub overflow_add-clearance_at : goal.overflow_add-clearance_at
-overflow_add-clearance_at c =
-    let small : (i : ℕ) → get_or (bytes c) i 0 < 256 =
-        (λ i. omega (arith, c.before.before.shared-slice-known.given i)) in
-    let size_below : size c < 65536 =
-        omega (arith, c.get_number.ensures, read_below (bytes c) 0 2 (small)) in
-    let count-below : c.get-number2.result < 65536 =
-        omega (arith, c.get-number2.ensures, read_below (bytes c.before) (count_at (size c.before)) 2 (small)) in
-    let h = size_below in
-    let k = count-below in
-    omega arith
-
-pub overflow_add-whole : goal.overflow_add-whole
-overflow_add-whole c =
-    let small : (i : ℕ) → get_or (bytes c) i 0 < 256 =
-        (λ i. omega (arith, c.before.before.shared-slice-known.given i)) in
-    let size_below : size c < 65536 =
-        omega (arith, c.get_number.ensures, read_below (bytes c) 0 2 (small)) in
-    let count-below : c.get-number2.result < 65536 =
-        omega (arith, c.get-number2.ensures, read_below (bytes c.before) (count_at (size c.before)) 2 (small)) in
-    let h = size_below in
-    let k = count-below in
-    omega arith
 
 pub returns-then-refused-ne0 : goal.returns-then-refused-ne0
 returns-then-refused-ne0 c =
-    let is-refusal : c.first_refusal.result ≡ bytes_refusal (bytes c.before.before.before) (length c.before.before.before.before.before.before.args.out.now) =
-        let g = c in
-    c.first_refusal.ensures ∙ refusal_read (bytes g) g.get_number-n.ensures c.before.before.get-number2.ensures c.before.get-number3.ensures _ in
-    let r = c in
-    let g = r in
-    bytes-refused (bytes g) g.args.out.now (is-refusal) c.if-refused-ne0.true
+    let b = c.args.input.now in
+    let out = c.args.out.now in
+    let is-refusal : c.first_refusal-refused.result ≡ bytes_refusal b (length out) =
+        c.first_refusal-refused.ensures ∙ refusal_read b c.get_number-n.ensures c.get_number-count.ensures c.get_number.ensures _ in
+    bytes-refused b out is-refusal c.if-refused-ne0.true
 
+-- where none is refused: at most 256 words
 pub slice_bounds-words-end : goal.slice_bounds-words-end
 slice_bounds-words-end c =
-    let short : size c.before.before.before.before ≤ 256 =
-        (all-passed _ _ _ _ _ (sym c.before.first_refusal.ensures ∙ c.if1.false)).short in
-    short
+    (all-passed _ _ _ _ _ (sym c.first_refusal-refused.ensures ∙ c.if-refused-ne0.false)).short
 
 pub slice_bounds-get_words-end : goal.slice_bounds-get_words-end
 slice_bounds-get_words-end c =
-    let short : size c.before.before.before.before ≤ 256 =
-        (all-passed _ _ _ _ _ (sym c.before.first_refusal.ensures ∙ c.if1.false)).short in
-    sym (length-take-le (size c.before) (replicate 256 0) (short))
+    let short = (all-passed _ _ _ _ _ (sym c.first_refusal-refused.ensures ∙ c.if-refused-ne0.false)).short in
+    sym (length-take-le c.get_number-n.result (replicate 256 0) short)
+
+-- the two counts are of two bytes each
+two_bytes : (b : List ℕ) (at : ℕ) {n : ℕ} → n ≡ read_number b at 2 → ((i : ℕ) → get_or b i 0 < 256) → n < 65536
+two_bytes b at e small = omega (arith, e, read_below b at 2 small)
+
+pub overflow_mul-marks_at : goal.overflow_mul-marks_at
+overflow_mul-marks_at c =
+    omega (arith, two_bytes c.args.input.now 0 c.get_number-n.ensures (λ i. omega (arith, c.type_inv.input i)))
+
+pub overflow_add-marks_at : goal.overflow_add-marks_at
+overflow_add-marks_at c =
+    omega (arith, two_bytes c.args.input.now 0 c.get_number-n.ensures (λ i. omega (arith, c.type_inv.input i)))
+
+pub overflow_add-budget_at : goal.overflow_add-budget_at
+overflow_add-budget_at c =
+    omega (arith, two_bytes c.args.input.now 0 c.get_number-n.ensures (λ i. omega (arith, c.type_inv.input i)))
+
+pub overflow_add-count_at : goal.overflow_add-count_at
+overflow_add-count_at c =
+    omega (arith, two_bytes c.args.input.now 0 c.get_number-n.ensures (λ i. omega (arith, c.type_inv.input i)))
+
+pub overflow_add-breaks_at : goal.overflow_add-breaks_at
+overflow_add-breaks_at c =
+    omega (arith, two_bytes c.args.input.now 0 c.get_number-n.ensures (λ i. omega (arith, c.type_inv.input i)))
+
+pub overflow_add-clearance_at : goal.overflow_add-clearance_at
+overflow_add-clearance_at c =
+    let small : (i : ℕ) → get_or c.args.input.now i 0 < 256 = (λ i. omega (arith, c.type_inv.input i)) in
+    omega (arith, two_bytes c.args.input.now 0 c.get_number-n.ensures small, two_bytes c.args.input.now _ c.get_number-count.ensures small)
+
+pub overflow_add-whole : goal.overflow_add-whole
+overflow_add-whole c =
+    let small : (i : ℕ) → get_or c.args.input.now i 0 < 256 = (λ i. omega (arith, c.type_inv.input i)) in
+    omega (arith, two_bytes c.args.input.now 0 c.get_number-n.ensures small, two_bytes c.args.input.now _ c.get_number-count.ensures small)
 
 pub slice_bounds-words-end-2 : goal.slice_bounds-words-end-2
 slice_bounds-words-end-2 c =
-    let short : size c.before.before.before.before ≤ 256 =
-        (all-passed _ _ _ _ _ (sym c.before.first_refusal.ensures ∙ c.if1.false)).short in
-    let ends : length (bytes c.before.before.before.before) ≡ length_due (size c.before.before.before.before) c.before.before.before.get-number2.result =
-        eqb-true _ _ (all-passed _ _ _ _ _ (sym c.before.first_refusal.ensures ∙ c.if1.false)).ends in
-    let is_read : read c ≡ numbers 2 (size c.before.before.before.before.before.before) (drop 2 (bytes c.before.before.before.before.before.before)) =
-        let t = c in
-    let l = ends in
-    words_read (bytes t.before) (replicate 256 0) 2 (short) (omega arith) c.get_words.ensures in
-    let read_length : length (read c) ≡ size c.before.before.before.before.before.before =
-        ap length (is_read) ∙ length-numbers 2 _ _ in
-    let l = read_length in
-    let s = short in
+    let b = c.args.input.now in
+    let n = c.get_number-n.result in
+    let passed = all-passed _ _ _ _ _ (sym c.first_refusal-refused.ensures ∙ c.if-refused-ne0.false) in
+    let short : n ≤ 256 = passed.short in
+    let ends : length b ≡ length_due n c.get_number-count.result = eqb-true _ _ passed.ends in
+    let is_read : c.get_words.new.out ≡ numbers 2 n (drop 2 b) =
+        words_read b (replicate 256 0) 2 short (omega arith) c.get_words.ensures in
+    let read_length : length c.get_words.new.out ≡ n = ap length is_read ∙ length-numbers 2 _ _ in
     rw length-append (omega arith)
 
 pub slice_bounds-report-end : goal.slice_bounds-report-end
 slice_bounds-report-end c =
-    let short : size c.before.before.before.before ≤ 256 =
-        (all-passed _ _ _ _ _ (sym c.before.first_refusal.ensures ∙ c.if1.false)).short in
-    let ends : length (bytes c.before.before.before.before) ≡ length_due (size c.before.before.before.before) c.before.before.before.get-number2.result =
-        eqb-true _ _ (all-passed _ _ _ _ _ (sym c.before.first_refusal.ensures ∙ c.if1.false)).ends in
-    let is_read : read c ≡ numbers 2 (size c.before.before.before.before.before.before) (drop 2 (bytes c.before.before.before.before.before.before)) =
-        let t = c in
-    let l = ends in
-    words_read (bytes t.before) (replicate 256 0) 2 (short) (omega arith) c.get_words.ensures in
-    let read_length : length (read c) ≡ size c.before.before.before.before.before.before =
-        ap length (is_read) ∙ length-numbers 2 _ _ in
-    let w = c in
-    sym (ap length (take_at (read w) _ _ (read_length)) ∙ read_length)
+    let b = c.args.input.now in
+    let n = c.get_number-n.result in
+    let passed = all-passed _ _ _ _ _ (sym c.first_refusal-refused.ensures ∙ c.if-refused-ne0.false) in
+    let short : n ≤ 256 = passed.short in
+    let ends : length b ≡ length_due n c.get_number-count.result = eqb-true _ _ passed.ends in
+    let is_read : c.get_words.new.out ≡ numbers 2 n (drop 2 b) =
+        words_read b (replicate 256 0) 2 short (omega arith) c.get_words.ensures in
+    let read_length : length c.get_words.new.out ≡ n = ap length is_read ∙ length-numbers 2 _ _ in
+    sym (ap length (take_at c.get_words.new.out _ _ read_length) ∙ read_length)
 
--- NO GOAL: part-report-start : tie.Need-slice-bounds-report-start
--- NO GOAL: part-report-start c = omega arith
+pub slice_bounds-report-end-2 : goal.slice_bounds-report-end-2
+slice_bounds-report-end-2 c =
+    let ends : length c.args.input.now ≡ length_due c.get_number-n.result c.get_number-count.result =
+        eqb-true _ _ (all-passed _ _ _ _ _ (sym c.first_refusal-refused.ensures ∙ c.if-refused-ne0.false)).ends in
+    omega arith
 
--- NO GOAL: part-report-end : tie.Need-slice-bounds-report-end
--- NO GOAL: part-report-end c = let l = ends c.before.before.before.before in omega arith
-
-pub slice_bounds-report-count-2 : goal.slice_bounds-report-count-2
-slice_bounds-report-count-2 c =
-    let ends : length (bytes c.before.before.before.before) ≡ length_due (size c.before.before.before.before) c.before.before.before.get-number2.result =
-        eqb-true _ _ (all-passed _ _ _ _ _ (sym c.before.first_refusal.ensures ∙ c.if1.false)).ends in
-    let l = ends in omega arith
-
--- NO GOAL: part-report-start-2 : tie.Need-slice-bounds-report-start-2
--- NO GOAL: part-report-start-2 c = let l = ends c.before.before.before.before.before in omega arith
-
--- NO GOAL: part-report-end-2 : tie.Need-slice-bounds-report-end-2
--- NO GOAL: part-report-end-2 c = let l = ends c.before.before.before.before.before in omega arith
+pub slice_bounds-report-end-3 : goal.slice_bounds-report-end-3
+slice_bounds-report-end-3 c =
+    let ends : length c.args.input.now ≡ length_due c.get_number-n.result c.get_number-count.result =
+        eqb-true _ _ (all-passed _ _ _ _ _ (sym c.first_refusal-refused.ensures ∙ c.if-refused-ne0.false)).ends in
+    omega arith
 
 pub bounds-input-clearance_at : goal.bounds-input-clearance_at
 bounds-input-clearance_at c =
-    let ends : length (bytes c.before.before.before.before) ≡ length_due (size c.before.before.before.before) c.before.before.before.get-number2.result =
-        eqb-true _ _ (all-passed _ _ _ _ _ (sym c.before.first_refusal.ensures ∙ c.if1.false)).ends in
-    let l = ends in omega arith
+    let ends : length c.args.input.now ≡ length_due c.get_number-n.result c.get_number-count.result =
+        eqb-true _ _ (all-passed _ _ _ _ _ (sym c.first_refusal-refused.ensures ∙ c.if-refused-ne0.false)).ends in
+    omega arith
 
 pub returns : goal.returns
 returns c =
-    let is-refusal : c.first_refusal.result ≡ bytes_refusal (bytes c.before.before.before) (length c.before.before.before.before.before.before.args.out.now) =
-        let g = c in
-    c.first_refusal.ensures ∙ refusal_read (bytes g) g.get_number-n.ensures c.before.before.get-number2.ensures c.before.get-number3.ensures _ in
-    let short : size c.before.before.before.before ≤ 256 =
-        (all-passed _ _ _ _ _ (sym c.before.first_refusal.ensures ∙ c.if1.false)).short in
-    let ends : length (bytes c.before.before.before.before) ≡ length_due (size c.before.before.before.before) c.before.before.before.get-number2.result =
-        eqb-true _ _ (all-passed _ _ _ _ _ (sym c.before.first_refusal.ensures ∙ c.if1.false)).ends in
-    let is_read : read c ≡ numbers 2 (size c.before.before.before.before.before.before) (drop 2 (bytes c.before.before.before.before.before.before)) =
-        let t = c in
-    let l = ends in
-    words_read (bytes t.before) (replicate 256 0) 2 (short) (omega arith) c.get_words.ensures in
-    let read_length : length (read c) ≡ size c.before.before.before.before.before.before =
-        ap length (is_read) ∙ length-numbers 2 _ _ in
-    let q = c in
-    let w = q in
-    let t = w in
-    let g = t in
-    let b = bytes g in
-    let out = g.args.out.now in
-    q.report.ensures
-    ∙ ap (λ (i : Input). report_outcome i out) (input_read b g.get_number-n.ensures t.get_number-count.ensures t.get_number.ensures (take_at (read w) _ _ (read_length) ∙ is_read))
-    ∙ bytes_served b out (sym (is-refusal) ∙ t.if-refused-ne0.false)
+    let b = c.args.input.now in
+    let out = c.args.out.now in
+    let n = c.get_number-n.result in
+    let is-refusal : c.first_refusal-refused.result ≡ bytes_refusal b (length out) =
+        c.first_refusal-refused.ensures ∙ refusal_read b c.get_number-n.ensures c.get_number-count.ensures c.get_number.ensures _ in
+    let passed = all-passed _ _ _ _ _ (sym c.first_refusal-refused.ensures ∙ c.if-refused-ne0.false) in
+    let short : n ≤ 256 = passed.short in
+    let ends : length b ≡ length_due n c.get_number-count.result = eqb-true _ _ passed.ends in
+    let is_read : c.get_words.new.out ≡ numbers 2 n (drop 2 b) =
+        words_read b (replicate 256 0) 2 short (omega arith) c.get_words.ensures in
+    let read_length : length c.get_words.new.out ≡ n = ap length is_read ∙ length-numbers 2 _ _ in
+    c.report.ensures
+    ∙ ap (λ (i : Input). report_outcome i out) (input_read b c.get_number-n.ensures c.get_number-count.ensures c.get_number.ensures (take_at c.get_words.new.out _ _ read_length ∙ is_read))
+    ∙ bytes_served b out (sym is-refusal ∙ c.if-refused-ne0.false)
