@@ -18,7 +18,7 @@ pub returns-then-refused-ne0 : goal.returns-then-refused-ne0
 returns-then-refused-ne0 c =
     let i : Input = input_from c.args.image.now c.args.marks.now c.args.budget.0 c.args.breakpoints.now c.args.clearance in
     let number : c.guarded_run-run.result.refused ≡ input_refusal i =
-        ap (λ (a : GuardedAnswer). a.refused) c.guarded_run-run.ensures.answer ∙ answer-refusal i in
+    ap (λ (a : GuardedAnswer). a.refused) c.guarded_run-run.ensures.answer ∙ answer-refusal i in
     let g = c in
     let a = g.args in
     call-refused i a.out.now number c.if-refused-ne0.true
@@ -27,7 +27,7 @@ pub returns-then-out-lt-REPORT_LENGTH : goal.returns-then-out-lt-REPORT_LENGTH
 returns-then-out-lt-REPORT_LENGTH c =
     let i : Input = input_from c.args.image.now c.args.marks.now c.args.budget.0 c.args.breakpoints.now c.args.clearance in
     let number : c.guarded_run-run.result.refused ≡ input_refusal i =
-        ap (λ (a : GuardedAnswer). a.refused) c.guarded_run-run.ensures.answer ∙ answer-refusal i in
+    ap (λ (a : GuardedAnswer). a.refused) c.guarded_run-run.ensures.answer ∙ answer-refusal i in
     let g = c in
     let s = c in
     call-short i s.args.out.now (sym number ∙ c.if-refused-ne0.false) c.if-out-lt-REPORT_LENGTH.true
@@ -35,26 +35,26 @@ returns-then-out-lt-REPORT_LENGTH c =
 pub slice_bounds-write_report-end : goal.slice_bounds-write_report-end
 slice_bounds-write_report-end c =
     let sixteen : length c.guarded_run-run.result.marks.registers ≡ register_count =
-        search rules in
+    search rules in
     sym (sixteen)
 
 pub slice_bounds-write_report-end-2 : goal.slice_bounds-write_report-end-2
 slice_bounds-write_report-end-2 c =
     let many : length c.guarded_run-run.result.marks.memory ≡ memory_words =
-        search rules in
+    search rules in
     sym (many)
 
 pub write_report-n-requires : goal.write_report-n-requires
 write_report-n-requires c =
     let i : Input = input_from c.args.image.now c.args.marks.now c.args.budget.0 c.args.breakpoints.now c.args.clearance in
     let sixteen : length c.guarded_run-run.result.marks.registers ≡ register_count =
-        search rules in
+    search rules in
     let many : length c.guarded_run-run.result.marks.memory ≡ memory_words =
-        search rules in
+    search rules in
     let number : c.guarded_run-run.result.refused ≡ input_refusal i =
-        ap (λ (a : GuardedAnswer). a.refused) c.guarded_run-run.ensures.answer ∙ answer-refusal i in
+    ap (λ (a : GuardedAnswer). a.refused) c.guarded_run-run.ensures.answer ∙ answer-refusal i in
     let answer : c.guarded_run-run.result.refused ≡ 0 → guarded_answer_of c.guarded_run-run.result ≡ served_answer i =
-        (λ z. c.guarded_run-run.ensures.answer ∙ answer_served i (sym number ∙ z)) in
+    (λ z. c.guarded_run-run.ensures.answer ∙ answer_served i (sym number ∙ z)) in
     let t = c in
     let g = t in
     let s = c in
@@ -75,9 +75,9 @@ pub returns : goal.returns
 returns c =
     let i : Input = input_from c.args.image.now c.args.marks.now c.args.budget.0 c.args.breakpoints.now c.args.clearance in
     let number : c.guarded_run-run.result.refused ≡ input_refusal i =
-        ap (λ (a : GuardedAnswer). a.refused) c.guarded_run-run.ensures.answer ∙ answer-refusal i in
+    ap (λ (a : GuardedAnswer). a.refused) c.guarded_run-run.ensures.answer ∙ answer-refusal i in
     let answer : c.guarded_run-run.result.refused ≡ 0 → guarded_answer_of c.guarded_run-run.result ≡ served_answer i =
-        (λ z. c.guarded_run-run.ensures.answer ∙ answer_served i (sym number ∙ z)) in
+    (λ z. c.guarded_run-run.ensures.answer ∙ answer_served i (sym number ∙ z)) in
     let p = c in
     let t = p in
     let g = t in

@@ -1,7 +1,6 @@
 -- Assumes nothing.
 use mathlib.Core.Path.{sym}
 use lib.Seq.{take_all}
-use borrow.Author.Rules.{rules}
 use Rattle.secret.specs.Program.{input_length}
 use Rattle.report.proofs.program.deciding.Goals as goal
 

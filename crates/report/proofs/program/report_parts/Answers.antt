@@ -20,7 +20,7 @@ returns-then-refused-ne0 c =
     let b = c.args.input.now in
     let out = c.args.out.now in
     let is-refusal : c.first_refusal-refused.result ≡ bytes_refusal b (length out) =
-        c.first_refusal-refused.ensures ∙ refusal_read b c.get_number-n.ensures c.get_number-count.ensures c.get_number.ensures _ in
+    c.first_refusal-refused.ensures ∙ refusal_read b c.get_number-n.ensures c.get_number-count.ensures c.get_number.ensures _ in
     bytes-refused b out is-refusal c.if-refused-ne0.true
 
 -- where none is refused: at most 256 words
@@ -75,7 +75,7 @@ slice_bounds-words-end-2 c =
     let short : n ≤ 256 = passed.short in
     let ends : length b ≡ length_due n c.get_number-count.result = eqb-true _ _ passed.ends in
     let is_read : c.get_words.new.out ≡ numbers 2 n (drop 2 b) =
-        words_read b (replicate 256 0) 2 short (omega arith) c.get_words.ensures in
+    words_read b (replicate 256 0) 2 short (omega arith) c.get_words.ensures in
     let read_length : length c.get_words.new.out ≡ n = ap length is_read ∙ length-numbers 2 _ _ in
     rw length-append (omega arith)
 
@@ -87,26 +87,26 @@ slice_bounds-report-end c =
     let short : n ≤ 256 = passed.short in
     let ends : length b ≡ length_due n c.get_number-count.result = eqb-true _ _ passed.ends in
     let is_read : c.get_words.new.out ≡ numbers 2 n (drop 2 b) =
-        words_read b (replicate 256 0) 2 short (omega arith) c.get_words.ensures in
+    words_read b (replicate 256 0) 2 short (omega arith) c.get_words.ensures in
     let read_length : length c.get_words.new.out ≡ n = ap length is_read ∙ length-numbers 2 _ _ in
     sym (ap length (take_at c.get_words.new.out _ _ read_length) ∙ read_length)
 
 pub slice_bounds-report-end-2 : goal.slice_bounds-report-end-2
 slice_bounds-report-end-2 c =
     let ends : length c.args.input.now ≡ length_due c.get_number-n.result c.get_number-count.result =
-        eqb-true _ _ (all-passed _ _ _ _ _ (sym c.first_refusal-refused.ensures ∙ c.if-refused-ne0.false)).ends in
+    eqb-true _ _ (all-passed _ _ _ _ _ (sym c.first_refusal-refused.ensures ∙ c.if-refused-ne0.false)).ends in
     omega arith
 
 pub slice_bounds-report-end-3 : goal.slice_bounds-report-end-3
 slice_bounds-report-end-3 c =
     let ends : length c.args.input.now ≡ length_due c.get_number-n.result c.get_number-count.result =
-        eqb-true _ _ (all-passed _ _ _ _ _ (sym c.first_refusal-refused.ensures ∙ c.if-refused-ne0.false)).ends in
+    eqb-true _ _ (all-passed _ _ _ _ _ (sym c.first_refusal-refused.ensures ∙ c.if-refused-ne0.false)).ends in
     omega arith
 
 pub bounds-input-clearance_at : goal.bounds-input-clearance_at
 bounds-input-clearance_at c =
     let ends : length c.args.input.now ≡ length_due c.get_number-n.result c.get_number-count.result =
-        eqb-true _ _ (all-passed _ _ _ _ _ (sym c.first_refusal-refused.ensures ∙ c.if-refused-ne0.false)).ends in
+    eqb-true _ _ (all-passed _ _ _ _ _ (sym c.first_refusal-refused.ensures ∙ c.if-refused-ne0.false)).ends in
     omega arith
 
 pub returns : goal.returns
@@ -115,12 +115,12 @@ returns c =
     let out = c.args.out.now in
     let n = c.get_number-n.result in
     let is-refusal : c.first_refusal-refused.result ≡ bytes_refusal b (length out) =
-        c.first_refusal-refused.ensures ∙ refusal_read b c.get_number-n.ensures c.get_number-count.ensures c.get_number.ensures _ in
+    c.first_refusal-refused.ensures ∙ refusal_read b c.get_number-n.ensures c.get_number-count.ensures c.get_number.ensures _ in
     let passed = all-passed _ _ _ _ _ (sym c.first_refusal-refused.ensures ∙ c.if-refused-ne0.false) in
     let short : n ≤ 256 = passed.short in
     let ends : length b ≡ length_due n c.get_number-count.result = eqb-true _ _ passed.ends in
     let is_read : c.get_words.new.out ≡ numbers 2 n (drop 2 b) =
-        words_read b (replicate 256 0) 2 short (omega arith) c.get_words.ensures in
+    words_read b (replicate 256 0) 2 short (omega arith) c.get_words.ensures in
     let read_length : length c.get_words.new.out ≡ n = ap length is_read ∙ length-numbers 2 _ _ in
     c.report.ensures
     ∙ ap (λ (i : Input). report_outcome i out) (input_read b c.get_number-n.ensures c.get_number-count.ensures c.get_number.ensures (take_at c.get_words.new.out _ _ read_length ∙ is_read))

@@ -15,7 +15,7 @@ pub returns : goal.returns
 unfolding big_endian
 returns c =
     let byte : c.args.kind < 256 =
-        search rules in
+    search rules in
     let p = c in
     let q = p in
     let s = q in

@@ -1,13 +1,13 @@
-use Prim.Native.Nat.{◌+◌, ◌*◌, ◌-◌}
+use Prim.Native.Nat.{◌+◌, ◌*◌}
 use native.Mathlib.Nat.{add-zero, sub-zero}
 use native.Mathlib.Omega.{arith}
 use mathlib.Core.Path.{refl, sym, ◌∙◌}
-use lib.ListN.{length, get_or}
+use lib.ListN.{get_or}
 use Rattle.encoding.proofs.Written.{each_turn, each_done}
 use Rattle.vm.specs.Calls.{image_words}
 use Rattle.marks.specs.Owners.{hidden_from}
 use Rattle.secret.specs.Widths.{head_length, start_length}
-use Rattle.secret.specs.Report.{start_record, start_records}
+use Rattle.secret.specs.Report.{start_records}
 use Rattle.secret.proofs.Accepts.{words_at}
 use Rattle.secret.proofs.Shows.{length-start}
 use borrow.Author.Rules.{rules}

@@ -1,9 +1,8 @@
-use Prim.Native.Nat.{◌+◌, ◌*◌, ◌-◌}
+use Prim.Native.Nat.{◌+◌, ◌*◌}
 use native.Mathlib.Nat.{add-zero, sub-zero}
 use native.Mathlib.Omega.{arith}
 use mathlib.Core.Path.{refl, sym, ◌∙◌}
 use lib.ListN.{length, get_or}
-use Rattle.encoding.specs.Bytes.{over}
 use Rattle.encoding.proofs.Written.{each_turn, each_done}
 use Rattle.secret.specs.Widths.{touched_length}
 use Rattle.secret.specs.Report.{each_record}

@@ -2,7 +2,6 @@ use Prim.Native.Nat.{◌+◌, ◌*◌, ◌-◌}
 use native.Mathlib.Nat.{add-zero, sub-zero}
 use native.Mathlib.Omega.{arith}
 use mathlib.Core.Path.{◌≡◌, refl, sym, ◌∙◌}
-use lib.ListN.{length}
 use Rattle.encoding.proofs.Written.{each_turn, each_done}
 use Rattle.secret.specs.Forms.{slot_records}
 use Rattle.secret.proofs.Lengths.{length_slot}

@@ -1,14 +1,14 @@
-use Prim.Native.Nat.{ℕ, ◌+◌, ◌*◌, ◌-◌, ◌≤◌, ◌<◌}
+use Prim.Native.Nat.{ℕ, ◌+◌, ◌*◌, ◌≤◌, ◌<◌}
 use native.Mathlib.Nat.{add-zero, sub-zero, mul-zero, mul-le-mul_left}
 use native.Mathlib.Omega.{arith}
 use mathlib.Core.Path.{refl, sym, ◌∙◌}
 use lib.ListN.{length, get_or}
-use Rattle.encoding.specs.Bytes.{over, big_endian}
+use Rattle.encoding.specs.Bytes.{big_endian}
 use Rattle.encoding.proofs.Written.{each_turn, each_done}
 use Rattle.marks.specs.Owners.{hidden_from}
 use Rattle.encoding.proofs.Numbers.{length-big_endian}
 use Rattle.secret.specs.Widths.{value_length}
-use Rattle.secret.specs.Report.{value_record, value_records}
+use Rattle.secret.specs.Report.{value_records}
 use Rattle.secret.proofs.Shows.{length-value}
 use borrow.Author.Rules.{rules}
 use Rattle.report.proofs.rows.put_values.Invariants.{piece}
@@ -24,7 +24,7 @@ loop-i-init c = (search rules, refl, rw (mul-zero, add-zero, sub-zero))
 pub overflow_mul-size : goal.overflow_mul-size
 overflow_mul-size c =
     let long : length c.args.out.now < 18446744073709551616 =
-        search rules in
+    search rules in
     let h : c.loop-i.i < length c.args.values.now = omega arith in
     let r = room (value_length c.args.width) c.args.at (length c.args.out.now) h c.requires.0 in
     omega (arith, r, long)
@@ -32,7 +32,7 @@ overflow_mul-size c =
 pub overflow_add-at : goal.overflow_add-at
 overflow_add-at c =
     let long : length c.args.out.now < 18446744073709551616 =
-        search rules in
+    search rules in
     let h : c.loop-i.i < length c.args.values.now = omega arith in
     let r = room (value_length c.args.width) c.args.at (length c.args.out.now) h c.requires.0 in
     omega (arith, r, long)

@@ -13,9 +13,9 @@ use Rattle.report.proofs.whole.write_report.Goals as goal
 pub returns : goal.returns
 returns c =
     let columns : length c.args.machine.columns ≡ columns_length =
-        search rules in
+    search rules in
     let touched : length c.args.machine.touched ≡ memory_words =
-        search rules in
+    search rules in
     let p = c in
     let q = p in
     let s = q in
