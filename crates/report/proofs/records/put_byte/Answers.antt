@@ -1,0 +1,13 @@
+-- `put_byte` meets its contract.
+-- Assumes nothing.
+use mathlib.Core.Path.{◌∙◌}
+use mathlib.Core.List.{[], ◌∷◌}
+use Rattle.encoding.proofs.Written.{written-fits}
+use Rattle.report.proofs.records.put_byte.Goals as goal
+
+pub returns : goal.returns
+returns c =
+    let p = c in
+    let s = p in
+    let a = s.args in
+    p.put_bytes.ensures ∙ written-fits a.out.now a.at (a.kind ∷ a.byte ∷ []) s.requires

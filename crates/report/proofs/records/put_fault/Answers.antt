@@ -1,0 +1,18 @@
+-- `put_fault` meets its contract.
+-- Assumes nothing.
+use mathlib.Core.Path.{◌∙◌, ap}
+use mathlib.Core.List.{List}
+use Prim.Native.Nat.{ℕ}
+use Rattle.encoding.specs.Bytes.{big_endian, written}
+use Rattle.encoding.proofs.Written.{written-fits}
+use Rattle.control.specs.Codes.{fault_bytes}
+use Rattle.report.proofs.records.put_fault.Goals as goal
+
+pub returns : goal.returns
+unfolding fault_bytes big_endian
+returns c =
+    let p = c in
+    let f = p in
+    let s = f in
+    let a = s.args in
+    p.put_bytes.ensures ∙ ap (λ (l : List ℕ). written a.out.now a.at l) f.bytes-bytes.ensures ∙ written-fits a.out.now a.at (fault_bytes a.fault) s.requires
