@@ -1,0 +1,16 @@
+-- Assumes nothing.
+use mathlib.Core.Path.{ap, ◌∙◌}
+use mathlib.Core.List.{[]}
+use Rattle.vm.specs.declared.machine.Machine.{Machine as Code}
+use Rattle.vm.specs.Calls.{view_of, is_machine}
+use Rattle.vm.specs.RunCalls.{RunAnswer, run_answer, run_call}
+use Rattle.massey_bench.specs.Machine.{start, times, made_by, ticks_on, run_count}
+use Rattle.massey_bench.proofs.Machines.{start_ok}
+use Rattle.massey_bench.proofs.machine.massey_direct_run.Goals as goal
+
+pub returns : goal.returns
+unfolding run_count ticks_on times
+returns c =
+    let s = c in
+    let a = s.args in
+    ap (λ (r : RunAnswer). made_by r.machine) (c.direct_run-ran.ensures.answer ∙ ap (λ (m : Code). run_answer (run_call (is_machine m) [] a.budget (view_of m))) s.started-m.ensures ∙ (λ i. run_answer (run_call (start_ok a.image.now i) [] a.budget (view_of (start a.image.now)))))

@@ -1,0 +1,19 @@
+-- Assumes nothing.
+use Prim.Native.Nat.{◌-◌}
+use mathlib.Core.Path.{◌≡◌}
+use mathlib.Core.Bool.{true}
+use Rattle.vm.specs.Machine.{Machine}
+use Rattle.vm.specs.Instruction.{step_instruction}
+use Rattle.vm.specs.Calls.{view_of, is_machine}
+use Rattle.massey_bench.specs.Machine.{moving}
+use Rattle.massey_bench.proofs.Loops.{Going}
+use Rattle.massey_bench.proofs.machine.massey_direct_steps.Given as goal
+
+abbrev pub move : Machine → Machine
+move = moving (λ v. (step_instruction v).machine)
+
+abbrev pub invariant-loop-i : goal.invariant-loop-i
+invariant-loop-i l = Going move l.n l.i (view_of l.initial.m) (view_of l.m) × (is_machine l.m ≡ true)
+
+abbrev pub decreases-loop-i : goal.decreases-loop-i
+decreases-loop-i l = l.n - l.i
