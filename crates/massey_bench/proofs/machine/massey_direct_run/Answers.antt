@@ -1,4 +1,4 @@
--- Assumes nothing.
+-- A run without breakpoints, on the machine that was started.
 use mathlib.Core.Path.{ap, ◌∙◌}
 use mathlib.Core.List.{[]}
 use Rattle.vm.specs.declared.machine.Machine.{Machine as Code}
@@ -8,12 +8,8 @@ use Rattle.massey_bench.specs.Machine.{start, times, made_by, ticks_on, run_coun
 use Rattle.massey_bench.proofs.Machines.{start_ok}
 use Rattle.massey_bench.proofs.machine.massey_direct_run.Goals as goal
 
--- NO GOAL: slice-aggregate-direct-run : tie.Need-slice-aggregate-direct-run
--- NO GOAL: slice-aggregate-direct-run c = search rules
-
 pub returns : goal.returns
 unfolding run_count ticks_on times
 returns c =
-    let s = c in
-    let a = s.args in
-    ap (λ (r : RunAnswer). made_by r.machine) (c.direct_run-ran.ensures.answer ∙ ap (λ (m : Code). run_answer (run_call (is_machine m) [] a.budget (view_of m))) s.started-m.ensures ∙ (λ i. run_answer (run_call (start_ok a.image.now i) [] a.budget (view_of (start a.image.now)))))
+    let a = c.args in
+    ap (λ (r : RunAnswer). made_by r.machine) (c.direct_run-ran.ensures.answer ∙ ap (λ (m : Code). run_answer (run_call (is_machine m) [] a.budget (view_of m))) c.started-m.ensures ∙ (λ i. run_answer (run_call (start_ok a.image.now i) [] a.budget (view_of (start a.image.now)))))

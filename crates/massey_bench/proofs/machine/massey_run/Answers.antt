@@ -1,4 +1,4 @@
--- Assumes nothing.
+-- A run on the machine that was ticked.
 use mathlib.Core.Path.{ap, ◌∙◌}
 use Rattle.vm.specs.RunCalls.{RunAnswer, run_answer, run_call}
 use Rattle.massey_bench.specs.Machine.{made_by, run_count}

@@ -23,6 +23,5 @@ pub returns : goal.returns
 unfolding steps_count
 returns c =
     let l = c.loop-i in
-    let s = c in
-    let n = s.args.n in
-    ap made_by (at_end_lem move n _ c.loop-i-test.false l.invariant.0) ∙ ap (λ s. made_by (times n move (view_of s))) s.started-m.ensures
+    let n = c.args.n in
+    ap made_by (at_end_lem move n _ c.loop-i-test.false l.invariant.0) ∙ ap (λ s. made_by (times n move (view_of s))) c.started-m.ensures

@@ -1,4 +1,4 @@
--- Assumes nothing.
+-- The invariant: what is left to be done of the machine that is there.
 use Prim.Native.Nat.{◌-◌}
 use mathlib.Core.Path.{◌≡◌}
 use mathlib.Core.Bool.{true}

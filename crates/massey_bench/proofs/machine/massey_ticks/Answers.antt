@@ -1,4 +1,4 @@
--- Assumes nothing.
+-- What the machine that was ticked made.
 use mathlib.Core.Path.{ap}
 use Rattle.massey_bench.specs.Machine.{made_by, ticks_count}
 use Rattle.massey_bench.proofs.machine.massey_ticks.Goals as goal

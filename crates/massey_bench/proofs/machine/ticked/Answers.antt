@@ -22,6 +22,5 @@ pub returns : goal.returns
 unfolding ticks_on
 returns c =
     let l = c.loop-i in
-    let s = c in
-    let n = s.args.n in
-    (at_end_lem move n _ c.loop-i-test.false l.invariant.0 ∙ ap (λ s. times n move (view_of s)) s.started-m.ensures, l.invariant.1)
+    let n = c.args.n in
+    (at_end_lem move n _ c.loop-i-test.false l.invariant.0 ∙ ap (λ s. times n move (view_of s)) c.started-m.ensures, l.invariant.1)

@@ -1,10 +1,9 @@
--- Assumes nothing.
+-- The text of the word, field by field.
 use mathlib.Core.Path.{ap}
 use Rattle.isa.specs.declared.text.Text.{Text}
 use Rattle.massey_bench.proofs.texts.massey_format_word.Goals as goal
 
 pub returns : goal.returns
 returns c =
-    let k = c in
-    let t = k.format_word-t.ensures in
-    (ap (λ (x : Text). x.len) t, rw t at k.put_bytes.ensures)
+    let t = c.format_word-t.ensures in
+    (ap (λ (x : Text). x.len) t, rw t at c.put_bytes.ensures)

@@ -12,10 +12,9 @@ loop-i-init c = (search rules, at_start _ _ _)
 
 pub loop-i-preserved : goal.loop-i-preserved
 loop-i-preserved c =
-    let b = c in
-    let l = b.loop-i in
-    let e = b.push_history-a.ensures in
-    (search rules, turned push _ _ b.loop-i-test.true l.invariant.1 (λ i. held (e.left i) (e.answer i).machine))
+    let l = c.loop-i in
+    let e = c.push_history-a.ensures in
+    (search rules, turned push _ _ c.loop-i-test.true l.invariant.1 (λ i. held (e.left i) (e.answer i).machine))
 
 pub returns : goal.returns
 returns c =

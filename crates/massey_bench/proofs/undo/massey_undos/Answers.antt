@@ -11,8 +11,7 @@ loop-i-init c = at_start _ _ _
 
 pub loop-i-preserved : goal.loop-i-preserved
 loop-i-preserved c =
-    let b = c in
-    turned _ _ _ b.loop-i-test.true b.loop-i.invariant (ap (λ (s : Served). s.machine) b.undo-a.ensures)
+    turned _ _ _ c.loop-i-test.true c.loop-i.invariant (ap (λ (s : Served). s.machine) c.undo-a.ensures)
 
 pub returns : goal.returns
 returns c =
