@@ -100,7 +100,7 @@ pub struct State {
 }
 
 // The words that one tick may read: the word at MAR, and registers x, y, z and 0.
-#[derive(Drop)]
+#[derive(Clone, Copy)]
 pub struct Operands {
     pub cell: u16,
     pub x: u16,

@@ -15,7 +15,7 @@ use crate::texts::{
 use isa::{Decoded, Instruction, Opcode, Text, digits_of};
 
 // Which part of the machine cycle a transfer belongs to.
-#[derive(Drop)]
+#[derive(Clone, Copy)]
 pub enum Phase {
     // Fetching the next instruction from memory.
     Fetch,

@@ -63,7 +63,7 @@ fn state_of(record: &[u8]) -> State {
 }
 
 // The words that the tick may read, again.
-fn put_operands(out: &mut [u8], o: &Operands) {
+fn put_operands(out: &mut [u8], o: Operands) {
     put_number(out, 10, 2, o.cell as u64);
     put_number(out, 12, 2, o.x as u64);
     put_number(out, 14, 2, o.y as u64);
@@ -72,7 +72,7 @@ fn put_operands(out: &mut [u8], o: &Operands) {
 }
 
 // The question again, as the state and the words say it.
-fn put_question(out: &mut [u8], s: State, o: &Operands) {
+fn put_question(out: &mut [u8], s: State, o: Operands) {
     put_bytes(out, 0, b"M");
     put_control(out, 1, s.control);
     put_operands(out, o);
@@ -93,7 +93,7 @@ fn put_state(out: &mut [u8], s: State) {
 }
 
 // The tick's text and its phase, which the control unit says as it was before.
-fn put_text_and_phase(out: &mut [u8], before: Control, o: &Operands) {
+fn put_text_and_phase(out: &mut [u8], before: Control, o: Operands) {
     let tick = before.tick;
     put_text(out, 62, tick_text(tick, o.x == o.zero, before.ir));
     put_number(out, 95, 1, phase_of(tick).number() as u64);
@@ -152,14 +152,14 @@ fn lawful_around(before: Control, after: State) -> bool {
 pub(crate) fn passes(record: &[u8]) -> bool {
     let s = state_of(record);
     let o = operands_of(record);
-    let t = tick_of(s, operands_of(record));
+    let t = tick_of(s, o);
     if !lawful_around(s.control, t.state) {
         return false;
     }
     let mut due = [0u8; 113];
-    put_question(&mut due, s, &o);
+    put_question(&mut due, s, o);
     put_state(&mut due, t.state);
-    put_text_and_phase(&mut due, s.control, &o);
+    put_text_and_phase(&mut due, s.control, o);
     put_effects(&mut due, t);
     same(record, &due)
 }

@@ -55,9 +55,8 @@ fn phase_of_number(number: u8) -> Phase {
 
 // 'F': the label of a phase.
 pub(crate) fn phase_passes(record: &[u8]) -> bool {
-    let byte = byte_at(record, 1);
-    let number = phase_of_number(byte).number();
-    name_passes(record, b'F', number, phase_of_number(byte).label())
+    let phase = phase_of_number(byte_at(record, 1));
+    name_passes(record, b'F', phase.number(), phase.label())
 }
 
 // 'U': the name of an operation of the ALU. Its place is one less than its number: 0 is the number of

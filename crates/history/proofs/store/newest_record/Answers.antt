@@ -20,12 +20,6 @@ returns-then-count-eq0 c =
     let a = c.args in
     c.no_record-then-count-eq0.ensures ∙ sym (newest-none a.store.now a.count c.if-count-eq0.true)
 
--- NO GOAL: part-decode-start : tie.Need-slice-bounds-decode-start
--- NO GOAL: part-decode-start c = search rules
-
--- NO GOAL: part-decode-end : tie.Need-slice-bounds-decode-end
--- NO GOAL: part-decode-end c = search rules
-
 pub returns : goal.returns
 unfolding record_at
 returns c =

@@ -4,12 +4,6 @@ use Rattle.history.specs.Record.{record_bytes}
 use Rattle.history.proofs.Parts.{part_back}
 use Rattle.history.proofs.store.put_record.Goals as goal
 
--- NO GOAL: part-encode-start : tie.Need-slice-bounds-encode-start
--- NO GOAL: part-encode-start c = search rules
-
--- NO GOAL: part-encode-end : tie.Need-slice-bounds-encode-end
--- NO GOAL: part-encode-end c = search rules
-
 pub returns : goal.returns
 returns c =
     let s = c in

@@ -2,15 +2,9 @@
 use Rattle.plan.specs.Plan.{execute_text}
 use Rattle.plan.proofs.plan.execute_text.Goals as goal
 
--- NO GOAL: slice-aggregate-from-bytes : tie.Need-slice-aggregate-from-bytes
--- NO GOAL: slice-aggregate-from-bytes c = search rules
-
 pub returns-in_default : goal.returns-in_default
 unfolding execute_text
 returns-in_default c = rw c.in_default.is c.from_bytes.ensures
-
--- NO GOAL: slice-aggregate-from-bytes-2 : tie.Need-slice-aggregate-from-bytes-2
--- NO GOAL: slice-aggregate-from-bytes-2 c = search rules
 
 pub returns-in-LoadImmediate : goal.returns-in-LoadImmediate
 unfolding execute_text

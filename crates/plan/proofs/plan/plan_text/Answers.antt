@@ -3,9 +3,6 @@ use borrow.Author.Tests.{lt-ltb, le-ltb}
 use Rattle.plan.specs.Plan.{plan_text}
 use Rattle.plan.proofs.plan.plan_text.Goals as goal
 
--- NO GOAL: slice-aggregate-from-bytes : tie.Need-slice-aggregate-from-bytes
--- NO GOAL: slice-aggregate-from-bytes c = search rules
-
 pub returns-then-tick-count : goal.returns-then-tick-count
 unfolding plan_text
 returns-then-tick-count c = simp (lt-ltb _ _ c.if-tick-count.true) c.tick_text.ensures

@@ -13,12 +13,6 @@ use Rattle.report.proofs.rows.put_trace.Goals as goal
 pub loop-i-init : goal.loop-i-init
 loop-i-init c = (search rules, refl, rw (add-zero, sub-zero))
 
--- NO GOAL: part-put-traced-start : tie.Need-slice-bounds-put-traced-start invariant-loop decreases-loop
--- NO GOAL: part-put-traced-start c = search rules
-
--- NO GOAL: part-put-traced-end : tie.Need-slice-bounds-put-traced-end invariant-loop decreases-loop
--- NO GOAL: part-put-traced-end c = search rules
-
 pub loop-i-preserved : goal.loop-i-preserved
 loop-i-preserved c =
     let p = c in

@@ -8,9 +8,6 @@ use Rattle.trace.specs.Trace.{live_texts, texts_in}
 use Rattle.vm.proofs.Newest.{texts-length, newest_past, newest_at}
 use Rattle.vm.proofs.texts.newest_text.Goals as goal
 
--- NO GOAL: slice-aggregate-from-bytes : tie.Need-slice-aggregate-from-bytes
--- NO GOAL: slice-aggregate-from-bytes c = search rules
-
 pub returns-then-n-i : goal.returns-then-n-i
 returns-then-n-i c =
     let s = c in

@@ -5,27 +5,6 @@ use Rattle.isa.specs.Text.{ascii, text}
 use Rattle.control.specs.Operation.{operation_name}
 use Rattle.control.proofs.control.AluOperation.name.Goals as goal
 
--- NO GOAL: slice-aggregate-from-bytes : tie.Need-slice-aggregate-from-bytes
--- NO GOAL: slice-aggregate-from-bytes c = search rules
-
--- NO GOAL: slice-aggregate-from-bytes-2 : tie.Need-slice-aggregate-from-bytes-2
--- NO GOAL: slice-aggregate-from-bytes-2 c = search rules
-
--- NO GOAL: slice-aggregate-from-bytes-3 : tie.Need-slice-aggregate-from-bytes-3
--- NO GOAL: slice-aggregate-from-bytes-3 c = search rules
-
--- NO GOAL: slice-aggregate-from-bytes-4 : tie.Need-slice-aggregate-from-bytes-4
--- NO GOAL: slice-aggregate-from-bytes-4 c = search rules
-
--- NO GOAL: slice-aggregate-from-bytes-5 : tie.Need-slice-aggregate-from-bytes-5
--- NO GOAL: slice-aggregate-from-bytes-5 c = search rules
-
--- NO GOAL: slice-aggregate-from-bytes-6 : tie.Need-slice-aggregate-from-bytes-6
--- NO GOAL: slice-aggregate-from-bytes-6 c = search rules
-
--- NO GOAL: slice-aggregate-from-bytes-7 : tie.Need-slice-aggregate-from-bytes-7
--- NO GOAL: slice-aggregate-from-bytes-7 c = search rules
-
 pub returns-in-Add : goal.returns-in-Add
 returns-in-Add c = c.from_bytes.ensures ∙ ap (λ (g : AluOperation). text (ascii (operation_name g))) (sym c.in-Add.is)
 

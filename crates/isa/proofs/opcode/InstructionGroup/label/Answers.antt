@@ -5,15 +5,6 @@ use Rattle.isa.specs.Text.{ascii, text}
 use Rattle.isa.specs.Opcode.{label_of}
 use Rattle.isa.proofs.opcode.InstructionGroup.label.Goals as goal
 
--- NO GOAL: slice-aggregate-from-bytes : tie.Need-slice-aggregate-from-bytes
--- NO GOAL: slice-aggregate-from-bytes c = search rules
-
--- NO GOAL: slice-aggregate-from-bytes-2 : tie.Need-slice-aggregate-from-bytes-2
--- NO GOAL: slice-aggregate-from-bytes-2 c = search rules
-
--- NO GOAL: slice-aggregate-from-bytes-3 : tie.Need-slice-aggregate-from-bytes-3
--- NO GOAL: slice-aggregate-from-bytes-3 c = search rules
-
 pub returns-in-DataTransfer : goal.returns-in-DataTransfer
 returns-in-DataTransfer c = c.from_bytes.ensures ∙ ap (λ (g : InstructionGroup). text (ascii (label_of g))) (sym c.in-DataTransfer.is)
 

@@ -5,18 +5,6 @@ use Rattle.isa.specs.Text.{ascii, text}
 use Rattle.plan.specs.Plan.{phase_label}
 use Rattle.plan.proofs.plan.Phase.label.Goals as goal
 
--- NO GOAL: slice-aggregate-from-bytes : tie.Need-slice-aggregate-from-bytes
--- NO GOAL: slice-aggregate-from-bytes c = search rules
-
--- NO GOAL: slice-aggregate-from-bytes-2 : tie.Need-slice-aggregate-from-bytes-2
--- NO GOAL: slice-aggregate-from-bytes-2 c = search rules
-
--- NO GOAL: slice-aggregate-from-bytes-3 : tie.Need-slice-aggregate-from-bytes-3
--- NO GOAL: slice-aggregate-from-bytes-3 c = search rules
-
--- NO GOAL: slice-aggregate-from-bytes-4 : tie.Need-slice-aggregate-from-bytes-4
--- NO GOAL: slice-aggregate-from-bytes-4 c = search rules
-
 pub returns-in-Fetch : goal.returns-in-Fetch
 returns-in-Fetch c = c.from_bytes.ensures ∙ ap (λ (g : Phase). text (ascii (phase_label g))) (sym c.in-Fetch.is)
 

@@ -6,8 +6,5 @@ use Rattle.vm.proofs.machine.Machine.disassemble_at.Goals as goal
 pub returns-then-refused-eq0 : goal.returns-then-refused-eq0
 returns-then-refused-eq0 c = rw (← c.refusal_of-refused.ensures, eq-eqb _ _ c.if-refused-eq0.true, c.disassemble-text.ensures)
 
--- NO GOAL: slice-aggregate-from-bytes : tie.Need-slice-aggregate-from-bytes
--- NO GOAL: slice-aggregate-from-bytes c = search rules
-
 pub returns : goal.returns
 returns c = rw (← c.refusal_of-refused.ensures, ne_eqb _ _ c.if-refused-eq0.false, c.from_bytes-text.ensures)
