@@ -1,4 +1,4 @@
-/* The calls of libmassey.a (rt staticlib massey). A call answers a length where
+/* The calls of libmassey.a (tools/build massey). A call answers a length where
  * it is served, and minus the refusal's number where it is not; a refused call
  * leaves the buffer as it was. Every input and every length is answered.
  *
