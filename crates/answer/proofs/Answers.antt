@@ -13,7 +13,7 @@ use Rattle.isa.specs.Format.{decimal}
 use Rattle.encoding.specs.Bytes.{over}
 use Rattle.encoding.specs.Answer.{outcome}
 use Rattle.encoding.proofs.Written.{take-over, drop-over}
-use Rattle.answer.specs.Line.{refusal_line}
+use Rattle.answer.specs.Line.{refusal_line, counts_line}
 use Rattle.answer.specs.Answer.{answer_outcome, answer_of}
 
 module _ (bytes out : List ℕ) where
@@ -51,6 +51,11 @@ length-decimal (suc k) n = digits (length-decimal k (n / 10)) (ltb n 10)
 pub length-refusal : (n : ℕ) → length (refusal_line n) ≤ 29
 unfolding refusal_line
 length-refusal n = simp length-append (omega (arith, length-decimal 20 n))
+
+-- and so is a line of two counts
+pub length-counts : (p f : ℕ) → length (counts_line p f) ≤ 57
+unfolding counts_line
+length-counts p f = simp length-append (omega (arith, length-decimal 20 p, length-decimal 20 f))
 
 -- a refused program writes its line and nothing else
 pub refused-writes : (n : ℕ) (served out : List ℕ) → 29 ≤ length out → take (answer_outcome (answer_of (suc n) served) out).answer (answer_outcome (answer_of (suc n) served) out).buffer ≡ refusal_line (suc n)

@@ -6,6 +6,7 @@ use std::io::Read;
 
 // How many bytes were read, and whether they are all that there are or that were asked for: a read
 // that failed may have left some behind.
+// No Result: the bytes that were read are counted after a failed read too.
 #[derive(Drop)]
 pub struct Input {
     pub len: usize,
@@ -13,7 +14,7 @@ pub struct Input {
 }
 
 // Reads until `buf` is full, the input ends or a read fails. Whichever it was, the bytes that the
-// reader gave stand at the start of `buf`, and none of them is lost.
+// reader gave stand at the start of `buf`, and none of them is lost: of `read_exact` no clause says that.
 pub fn read_input<R: Read>(reader: &mut R, buf: &mut [u8]) -> Input
     ensures in_bounds { result.len ≤ length buf.new }
     ensures bytes { Consumes (R.remaining reader.old) (R.remaining reader.new)

@@ -18,14 +18,12 @@ pub use input::{Input, read_input};
 pub fn first(bytes: &[u8], n: usize) -> &[u8]
     ensures { result.now ≡ take n bytes.now }
 {
-    if n < bytes.len() {
-        return &bytes[0..n];
-    }
-    bytes
+    &bytes[..n.min(bytes.len())]
 }
 
 // Puts a number's digits into a line, and a text behind them; what is answered is the index behind
 // both.
+#[tactic(auto, using(crate::proofs::Lines::few))]
 fn put_numbered(line: &mut [u8], at: usize, n: u64, text: &[u8]) -> usize
     requires { at + (20 + length text.now) ≤ length line.old }
     ensures value { result ≡ at + length (decimal 20 n ++ text.now) }
@@ -42,6 +40,7 @@ fn put_numbered(line: &mut [u8], at: usize, n: u64, text: &[u8]) -> usize
 
 // Puts an answer at the start of `out`, where it fits; what is answered is its length, and 0 where
 // it does not fit.
+#[tactic(auto, unfolding(crate::specs::Answer::answer_outcome))]
 fn put_whole(out: &mut [u8], bytes: &[u8]) -> usize
     ensures { outcome result out.new ≡ answer_outcome bytes.now out.old }
 {
@@ -53,7 +52,7 @@ fn put_whole(out: &mut [u8], bytes: &[u8]) -> usize
     size
 }
 
-// The same for `refused N` and a line feed.
+// The same for `refused N` and a line feed. It takes any number, as it always did: a `Refusal` would ask more of callers.
 pub fn put_refusal(out: &mut [u8], number: u8) -> usize
     ensures { outcome result out.new ≡ answer_outcome (refusal_line number) out.old }
 {

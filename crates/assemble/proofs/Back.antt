@@ -13,8 +13,9 @@ use Rattle.encoding.specs.Answer.{Outcome, outcome, Told, unless_refused}
 use Rattle.encoding.specs.Bytes.{over, big_endians, numbers}
 use Rattle.encoding.proofs.Numbers.{length-numbers, big_endians-numbers, numbers-below}
 use Rattle.encoding.proofs.Written.{take-over}
-use Rattle.listing.specs.declared.Listed.TheVariants.{Written}
-use Rattle.listing.specs.Listing.{listing_words, listing_length, listing_of, told, listing_refusal, listing_outcome, bytes_refusal, bytes_listing, bytes_outcome}
+use Rattle.std.specs.Prelude.{Ok}
+use Rattle.encoding.specs.Refusal.{told}
+use Rattle.listing.specs.Listing.{listing_words, listing_length, listing_of, listing_refusal, listing_outcome, bytes_refusal, bytes_listing, bytes_outcome}
 use Rattle.listing.proofs.Listings.{length_listing, length-bytes}
 use Rattle.assemble.specs.Assembly.{refusal}
 use Rattle.assemble.specs.Answer.{answered, assembled, image_bytes}
@@ -27,11 +28,11 @@ use Rattle.assemble.proofs.Answers.{listing_answer}
 abbrev firsts : Outcome Told → List ℕ
 firsts o = take o.answer.length o.buffer
 
-written : (n k : ℕ) (out s : List ℕ) → n ≡ 0 → length s ≡ k → firsts (unless_refused n out (outcome (told (Written k)) (over out 0 s))) ≡ s
+written : (n k : ℕ) (out s : List ℕ) → n ≡ 0 → length s ≡ k → firsts (unless_refused n out (outcome (told (Ok k)) (over out 0 s))) ≡ s
 written zero k out s e l = rw (← l) (take-over out s)
 written (suc n) k out s e l = absurd (omega arith)
 
-told-number : (n k : ℕ) (out s : List ℕ) → (unless_refused n out (outcome (told (Written k)) s)).answer.refused ≡ n
+told-number : (n k : ℕ) (out s : List ℕ) → (unless_refused n out (outcome (told (Ok k)) s)).answer.refused ≡ n
 told-number zero k out s = refl
 told-number (suc n) k out s = refl
 

@@ -1,5 +1,6 @@
 -- The column of a word's text in a listing is an instruction: that word, or the word without the address that it refers to and that address's label.
 -- Assumes nothing.
+use Rattle.std.specs.Prelude.{None, Option, Some}
 use Prim.Native.Nat.{ℕ, ◌+◌, ◌*◌, ◌-◌, ◌/◌, ◌%◌, ◌<◌}
 use native.Mathlib.Omega.{arith}
 use native.Mathlib.Nat.{div-div-eq-div-mul, div-add-mod'}
@@ -12,8 +13,6 @@ use lib.ListN.{length}
 use Rattle.isa.specs.declared.opcode.Opcode.{Opcode}
 use Rattle.isa.specs.declared.opcode.Opcode.TheVariants.{LoadImmediate, LoadRegister, LoadMemory, StoreMemory, Add, Negate}
 use Rattle.isa.specs.declared.opcode.Opcode.TheVariants.{ShiftRight, ShiftLeft, And, Or, Xor, Jump, Halt}
-use Rattle.isa.specs.declared.opcode.Decoded.{Decoded}
-use Rattle.isa.specs.declared.opcode.Decoded.TheVariants.{Known, Unknown}
 use Rattle.isa.specs.Opcode.{nibble_of}
 use Rattle.isa.specs.Text.{ascii, spaced}
 use Rattle.isa.specs.Word.{decode_word, digit_w, digit_y, digit_z, byte_yz}
@@ -98,20 +97,20 @@ module _ (w : ℕ) (h : w < 65536) where
   data_fits = fits_by 16 (0 ∷ 16 ∷ []) (lit< tt) refl (omega (arith, by_digits w h)) refl
 
   -- a loose word is listed as data, and each other one as its template
-  other_fits : (o : Opcode) → decode_word w ≡ Known o → (unused_of o w ≡ 0 → Instruction (spaced 26 (fill w (ascii (template (Known o))))) w [])
+  other_fits : (o : Opcode) → decode_word w ≡ Some o → (unused_of o w ≡ 0 → Instruction (spaced 26 (fill w (ascii (template (Some o))))) w [])
       → Instruction (spaced 26 (other_text w)) w []
   unfolding other_text disassemble_text
   other_fits o e f = rw e (go (eqb (unused_of o w) 0) refl)
     where
-      go : (v : Bool) → eqb (unused_of o w) 0 ≡ v → Instruction (spaced 26 (other_by (cond (not v) Unknown (Known o)) w)) w []
-      go true q = rw (e, q, append-nil (ascii (template (Known o)))) (f (eqb-true (unused_of o w) 0 q))
+      go : (v : Bool) → eqb (unused_of o w) 0 ≡ v → Instruction (spaced 26 (other_by (cond (not v) None (Some o)) w)) w []
+      go true q = rw (e, q, append-nil (ascii (template (Some o)))) (f (eqb-true (unused_of o w) 0 q))
       go false q = data_fits
 
   -- what is to be of a word that decodes to d, and refers to an address inside the image where b
-  abbrev Column : Bool → Decoded → Type 0
+  abbrev Column : Bool → Option Opcode → Type 0
   Column b d = Instruction (spaced 26 (reference_text b (reference_of d) w)) (word_part (refers d && b) w) (label_if (refers d && b) w)
 
-  by_opcode : (b : Bool) (o : Opcode) → decode_word w ≡ Known o → digit_w w ≡ nibble_of o → Column b (Known o)
+  by_opcode : (b : Bool) (o : Opcode) → decode_word w ≡ Some o → digit_w w ≡ nibble_of o → Column b (Some o)
   unfolding forms made counted referred fill template
   by_opcode b LoadImmediate e n = other_fits LoadImmediate e (λ u. fits_by 0 (0 ∷ 0 ∷ 15 ∷ []) (lit< tt) refl (omega (arith, by_digits w h)) refl)
   by_opcode b LoadRegister e n = other_fits LoadRegister e (λ u. fits_by 1 (0 ∷ 0 ∷ 15 ∷ []) (lit< tt) refl (omega (arith, by_digits w h)) refl)
@@ -136,6 +135,6 @@ module _ (w : ℕ) (h : w < 65536) where
   unfolding listing_text other_text
   column_fits n = go (decode_word w) refl
     where
-      go : (d : Decoded) → decode_word w ≡ d → Column (ltb (byte_yz w) n) d
-      go (Known o) e = by_opcode (ltb (byte_yz w) n) o e (opcode_digit w o e)
-      go Unknown e = rw e data_fits
+      go : (d : Option Opcode) → decode_word w ≡ d → Column (ltb (byte_yz w) n) d
+      go (Some o) e = by_opcode (ltb (byte_yz w) n) o e (opcode_digit w o e)
+      go None e = rw e data_fits

@@ -1,16 +1,22 @@
 -- What the code of the assembler holds while it reads: positions for what is left, and a label as its key.
 -- Assumes nothing.
-use Rattle.std.specs.Prelude.{ℕ, ◌+◌, ◌*◌, ◌-◌, ◌≤◌, ◌<◌, ◌≡◌, Bool, true, false, cond, not, List, [], ◌∷◌, map, eqb, ltb, length, get_or, take, drop}
+use Rattle.std.specs.Prelude.{ℕ, ◌+◌, ◌*◌, ◌-◌, ◌≤◌, ◌<◌, ◌≡◌, Bool, cond, not, List, [], ◌∷◌, map, eqb, ltb, length, get_or, take, drop}
+use Rattle.std.specs.Prelude.{Option, Some, None, IfSome, Result, Ok, Err}
 use Prim.Native.Char.{code}
+use Rattle.encoding.specs.Bytes.{member}
+use Rattle.encoding.specs.declared.refusal.Refusal.{Refusal}
+use Rattle.encoding.specs.declared.refusal.Refusal.TheVariants.{Label}
 use Rattle.listing.specs.Listing.{listing_words}
 use Rattle.assemble.specs.Grammar.{front, behind, is_space, is_name_byte, is_label, digit_in}
 use Rattle.assemble.specs.Grammar.{Token, letter, blank, digit, name, forms, Found, none, found, tried}
-use Rattle.assemble.specs.Lines.{Line, bad, empty, word, no_comment, starts_labelled, read_line}
-use Rattle.assemble.specs.Assembly.{lines, words_of, labels_of, refers_of, key, missing, resolved, resolve_all, label_refusal}
+use Rattle.assemble.specs.Lines.{Line, bad, empty, word, starts_labelled, read_line}
+use Rattle.assemble.specs.Assembly.{lines, of_words, key, missing, placed, resolved, resolve_all, label_refusal}
 use Rattle.assemble.specs.Answer.{answered}
 use Rattle.assemble.specs.declared.forms.Seen.{Seen}
 use Rattle.assemble.specs.declared.forms.Spot.{Spot}
+use Rattle.assemble.specs.declared.lines.Entry.{Entry}
 use Rattle.assemble.specs.declared.lines.Row.{Row}
+use Rattle.assemble.specs.declared.lines.Row.TheVariants.{Empty, Word}
 use Rattle.assemble.specs.declared.text.Bounds.{Bounds}
 use Rattle.assemble.specs.declared.Assembled.{Assembled}
 
@@ -19,76 +25,80 @@ use Rattle.assemble.specs.declared.Assembled.{Assembled}
 abbrev pub in_line : ℕ → Bool
 in_line b = not (eqb b (code "\n"))
 
--- which bytes are passed over, by a number for each use: spaces, a name, what is no comment, a line
-abbrev pub passing : ℕ → ℕ → Bool
-passing k b = cond (eqb k 0) (is_space b) (cond (eqb k 1) (is_name_byte b) (cond (eqb k 2) (no_comment b) (in_line b)))
-
 -- the place e behind the bytes from `at` on that pass
-pub record Passed (k : ℕ) (s : List ℕ) (at e : ℕ) : Type 0 where
+pub record Passed (f : ℕ → Bool) (s : List ℕ) (at e : ℕ) : Type 0 where
   pub ahead : at ≤ e
   pub inside : e ≤ length s
-  pub passed : take (e - at) (drop at s) ≡ front (passing k) (drop at s)
-  pub left : drop e s ≡ behind (passing k) (drop at s)
+  pub passed : take (e - at) (drop at s) ≡ front f (drop at s)
+  pub left : drop e s ≡ behind f (drop at s)
 
--- the label's key, 0 where the bytes are no label
-abbrev pub label_key : List ℕ → ℕ
-label_key l = cond (is_label l) (key l) 0
+-- a test that holds of the bytes that do not pass
+abbrev pub Ends : (ℕ → Bool → Type 0) → (ℕ → Bool) → Type 0
+Ends test f = (b : ℕ) (r : Bool) → test b r → r ≡ not (f b)
+
+-- ---- digits and labels
+
+abbrev pub hex_value : ℕ → Option ℕ
+hex_value b = cond (ltb (digit_in b) 16) (Some (digit_in b)) None
+
+-- the label's key, where the bytes are a label
+abbrev pub label_key : List ℕ → Option ℕ
+label_key l = cond (is_label l) (Some (key l)) None
 
 -- ---- a form
 
-abbrev pub unread : Seen
-unread = record { ok = false; word = 0; refers = 0 }
+abbrev pub seen : Found → Option Seen
+seen none = None
+seen (found w r) = Some (record { word = w; refers = key r })
 
-abbrev pub seen : Found → Seen
-seen none = unread
-seen (found w r) = record { ok = true; word = w; refers = key r }
-
-abbrev pub ended : List ℕ → ℕ → ℕ → Seen
-ended [] w k = record { ok = true; word = w; refers = k }
-ended (b ∷ s) w k = unread
+abbrev pub ended : List ℕ → ℕ → ℕ → Option Seen
+ended [] w k = Some (record { word = w; refers = k })
+ended (b ∷ s) w k = None
 
 -- reading by a form, as `scan`, with the label so far as its key
-unfoldable pub keyed : List Token → ℕ → ℕ → List ℕ → Seen
+unfoldable pub keyed : List Token → ℕ → ℕ → List ℕ → Option Seen
 keyed [] w k s = ended (behind is_space s) w k
-keyed (letter c ∷ t) w k [] = unread
-keyed (letter c ∷ t) w k (b ∷ s) = cond (eqb b c) (keyed t w k s) unread
-keyed (blank ∷ t) w k [] = unread
-keyed (blank ∷ t) w k (b ∷ s) = cond (is_space b) (keyed t w k (behind is_space s)) unread
-keyed (digit m ∷ t) w k [] = unread
-keyed (digit m ∷ t) w k (b ∷ s) = cond (ltb (digit_in b) 16) (keyed t (w + m * digit_in b) k s) unread
-keyed (name ∷ t) w k s = cond (is_label (front is_name_byte s)) (keyed t w (key (front is_name_byte s)) (behind is_name_byte s)) unread
+keyed (letter c ∷ t) w k [] = None
+keyed (letter c ∷ t) w k (b ∷ s) = cond (eqb b c) (keyed t w k s) None
+keyed (blank ∷ t) w k [] = None
+keyed (blank ∷ t) w k (b ∷ s) = cond (is_space b) (keyed t w k (behind is_space s)) None
+keyed (digit m ∷ t) w k [] = None
+keyed (digit m ∷ t) w k (b ∷ s) = cond (ltb (digit_in b) 16) (keyed t (w + m * digit_in b) k s) None
+keyed (name ∷ t) w k s = cond (is_label (front is_name_byte s)) (keyed t w (key (front is_name_byte s)) (behind is_name_byte s)) None
 
 -- the rest of the form, read from a spot on
-abbrev pub after : Spot → List Token → List ℕ → Seen
-after n t s = cond n.ok (keyed t n.word n.refers (drop n.at s)) unread
+abbrev pub after : Option Spot → List Token → List ℕ → Option Seen
+after None t s = None
+after (Some n) t s = keyed t n.word n.refers (drop n.at s)
 
--- where one token of a form leads
-pub record Next (k : Token) (s : List ℕ) (at w r : ℕ) (n : Spot) : Type 0 where
-  pub inside : n.at ≤ length s
-  pub light : n.word ≤ w + 65536
-  pub reads : (t : List Token) → keyed (k ∷ t) w r (drop at s) ≡ after n t s
+-- where one token of a form leads, if it is there
+pub record Next (k : Token) (s : List ℕ) (spot : Spot) (n : Option Spot) : Type 0 where
+  pub inside : IfSome n (λ m. m.at ≤ length s)
+  pub light : IfSome n (λ m. m.word ≤ spot.word + 65536)
+  pub reads : (t : List Token) → keyed (k ∷ t) spot.word spot.refers (drop spot.at s) ≡ after n t s
 
 -- ---- a line
 
-abbrev pub row : Line → Row
-row bad = record { kind = 0; label = 0; word = 0; refers = 0 }
-row empty = record { kind = 1; label = 0; word = 0; refers = 0 }
-row (word l w r) = record { kind = 2; label = key l; word = w; refers = key r }
+abbrev pub entry : ℕ → ℕ → ℕ → Entry
+entry l w r = record { label = l; word = w; refers = r }
+
+abbrev pub row : Line → Option Row
+row bad = None
+row empty = Some Empty
+row (word l w r) = Some (Word (entry (key l) w (key r)))
 
 -- what is seen behind a label
-abbrev pub row_seen : ℕ → Seen → Row
-row_seen l n = cond n.ok (record { kind = 2; label = l; word = n.word; refers = n.refers }) (row bad)
+abbrev pub row_seen : ℕ → Option Seen → Option Row
+row_seen l None = None
+row_seen l (Some n) = Some (Word (entry l n.word n.refers))
 
 -- behind a label's colon
-abbrev pub row_after : ℕ → List ℕ → Row
-row_after l s = cond (is_space (get_or s 0 0)) (row_seen l (seen (tried forms (behind is_space s)))) (row bad)
+abbrev pub row_after : ℕ → List ℕ → Option Row
+row_after l s = cond (is_space (get_or s 0 0)) (row_seen l (seen (tried forms (behind is_space s)))) None
 
--- the key of the label that a line begins with, 0 where there is none with its colon; e is where the name ends
-pub record Labelled (s : List ℕ) (e r : ℕ) : Type 0 where
-  pub keyed : r ≡ cond (starts_labelled s) (key (front is_name_byte s)) 0
-  pub starts : (r ≡ 0 → ⊥) → starts_labelled s ≡ true
-  pub misses : r ≡ 0 → starts_labelled s ≡ false
-  pub inside : (r ≡ 0 → ⊥) → e < length s
+-- the key of the label with a colon that a line begins with
+abbrev pub colon_key : List ℕ → Option ℕ
+colon_key s = cond (starts_labelled s) (Some (key (front is_name_byte s))) None
 
 -- ---- the lines
 
@@ -105,34 +115,45 @@ pub record LineAt (s : List ℕ) (at : ℕ) (n : Bounds) : Type 0 where
 abbrev pub lines_from : List ℕ → ℕ → List Line
 lines_from t at = map read_line (lines (drop at t))
 
--- there is room for as many words, labels and references as an image has words
-abbrev pub Room : List ℕ → List ℕ → List ℕ → Type 0
-Room ws ks rs = (length ws ≡ listing_words) × (length ks ≡ listing_words) × (length rs ≡ listing_words)
+-- the entries of the lines that take an address
+abbrev pub entries_of : List Line → List Entry
+entries_of ls = of_words (λ l w r. entry (key l) w (key r)) ls
 
--- the first n of three lists are what is wanted of the lines
-pub record Held (ls : List Line) (n : ℕ) (ws ks rs : List ℕ) : Type 0 where
+-- the first n entries are what is wanted of the lines
+pub record Held (ls : List Line) (n : ℕ) (es : List Entry) : Type 0 where
   pub few : n ≤ listing_words
-  pub room : Room ws ks rs
-  pub words : take n ws ≡ words_of ls
-  pub labels : take n ks ≡ map key (labels_of ls)
-  pub refers : take n rs ≡ map key (refers_of ls)
-
--- unless the lines are refused
-abbrev pub HeldUnless : ℕ → List Line → ℕ → List ℕ → List ℕ → List ℕ → Type 0
-HeldUnless refused ls n ws ks rs = refused ≡ 0 → Held ls n ws ks rs
+  pub room : length es ≡ listing_words
+  pub entries : take n es ≡ entries_of ls
 
 -- ---- the answer
 
--- words, labels and references that give an image of 16-bit words
-pub record Linkable (ws ks rs : List ℕ) : Type 0 where
-  pub few : length ws ≤ listing_words
-  pub even : length rs ≡ length ws
-  pub small : (i : ℕ) → i < length ws → resolved ks (get_or ws i 0) (get_or rs i 0) < 65536
+-- labels, words and references of entries
+abbrev pub labels_in : List Entry → List ℕ
+labels_in es = map (λ (e : Entry). e.label) es
+
+abbrev pub words_in : List Entry → List ℕ
+words_in es = map (λ (e : Entry). e.word) es
+
+abbrev pub refers_in : List Entry → List ℕ
+refers_in es = map (λ (e : Entry). e.refers) es
+
+-- entries that give an image of 16-bit words
+pub record Linkable (es : List Entry) : Type 0 where
+  pub few : length es ≤ listing_words
+  pub small : (i : ℕ) → i < length es → resolved (labels_in es) (get_or (words_in es) i 0) (get_or (refers_in es) i 0) < 65536
+
+-- the first place of a key, if it is there
+abbrev pub place_of : ℕ → List ℕ → Option ℕ
+place_of k ks = cond (member k ks) (Some (placed k ks)) None
+
+-- the address of the label of a key, which is added to a word; 0 for no label
+abbrev pub address_of : List ℕ → ℕ → Result ℕ Refusal
+address_of ks k = cond (eqb k 0) (Ok 0) (cond (member k ks) (Ok (placed k ks)) (Err Label))
 
 -- words with the addresses that they refer to, where every label is there
-unfoldable pub resolved_as : List ℕ → List ℕ → List ℕ → Assembled
-resolved_as ws ks rs = answered (cond (missing rs ks) 12 0) (resolve_all ks ws rs)
+unfoldable pub resolved_as : List Entry → Result Assembled Refusal
+resolved_as es = answered (cond (missing (refers_in es) (labels_in es)) 12 0) (resolve_all (labels_in es) (words_in es) (refers_in es))
 
--- what words, labels and references give
-unfoldable pub linked : List ℕ → List ℕ → List ℕ → Assembled
-linked ws ks rs = answered (label_refusal ks rs) (resolve_all ks ws rs)
+-- what the entries give
+unfoldable pub linked : List Entry → Result Assembled Refusal
+linked es = answered (label_refusal (labels_in es) (refers_in es)) (resolve_all (labels_in es) (words_in es) (refers_in es))

@@ -3,167 +3,119 @@ ghost use Rattle.std.specs.Prelude.{◌≡◌, map, ◌≤◌, ◌<◌, length};
 ghost use Rattle.assemble.specs.Grammar.{token, letter, blank, digit, name, forms, form_at, tried};
 ghost use Rattle.assemble.specs.Reading.{seen, keyed, Next};
 
-use crate::bytes::{NAME, SPACES, digit_in, skip};
+use crate::bytes::{digit_in, is_name_byte, skip};
 use crate::labels::label_key;
 
 // What is read by a form: the word, and the key of the label that it refers to, 0 for none.
-#[derive(Drop)]
+#[derive(Clone, Copy, Debug, PartialEq, Eq)]
 pub struct Seen {
-    pub ok: bool,
     pub word: u64,
     pub refers: u64,
 }
 
 // Where the reading by a form has come to.
-#[derive(Drop)]
+#[derive(Clone, Copy, Debug, PartialEq, Eq)]
 pub struct Spot {
-    pub ok: bool,
     pub at: usize,
     pub word: u64,
     pub refers: u64,
 }
 
-// The form does not fit.
-const LOST: Spot = Spot {
-    ok: false,
-    at: 0,
-    word: 0,
-    refers: 0,
-};
-
-// No form fits.
-const UNREAD: Seen = Seen {
-    ok: false,
-    word: 0,
-    refers: 0,
-};
-
-// One token of a form, read at a place: where the reading comes to, with the word and the label so far.
-// A letter stands for itself.
-fn step_letter(c: u8, s: &[u8], at: usize, w: u64, r: u64) -> Spot
-    requires { at ≤ length s.now }
-    ensures { Next (letter c) s.now at w r result }
+// One token of a form, read at a spot: where the reading comes to, if the token is there. A letter stands
+// for itself.
+fn step_letter(c: u8, s: &[u8], spot: Spot) -> Option<Spot>
+    requires { spot.at ≤ length s.now }
+    ensures { Next (letter c) s.now spot result }
 {
-    if s.len() <= at {
-        return LOST;
+    if *s.get(spot.at)? != c {
+        return None;
     }
-    if s[at] != c {
-        return LOST;
-    }
-    Spot {
-        ok: true,
-        at: at + 1,
-        word: w,
-        refers: r,
-    }
+    Some(Spot {
+        at: spot.at + 1,
+        ..spot
+    })
 }
 
 // One space or more.
-fn step_blank(s: &[u8], at: usize, w: u64, r: u64) -> Spot
-    requires { at ≤ length s.now }
-    ensures { Next blank s.now at w r result }
+fn step_blank(s: &[u8], spot: Spot) -> Option<Spot>
+    requires { spot.at ≤ length s.now }
+    ensures { Next blank s.now spot result }
 {
-    if s.len() <= at {
-        return LOST;
+    if *s.get(spot.at)? != b' ' {
+        return None;
     }
-    if s[at] != b' ' {
-        return LOST;
-    }
-    let e = skip(SPACES, s, at + 1);
-    Spot {
-        ok: true,
-        at: e,
-        word: w,
-        refers: r,
-    }
+    let end = skip(s, spot.at + 1, |b| *b != b' ');
+    Some(Spot { at: end, ..spot })
 }
 
 // A digit, which counts `m` in the word. The word has room for more digits than any form has.
-fn step_digit(m: u64, s: &[u8], at: usize, w: u64, r: u64) -> Spot
-    requires { (at ≤ length s.now) × (m ≤ 4096) × (w < 16777216) }
-    ensures { Next (digit m) s.now at w r result }
+fn step_digit(m: u64, s: &[u8], spot: Spot) -> Option<Spot>
+    requires { (spot.at ≤ length s.now) × (m ≤ 4096) × (spot.word < 16777216) }
+    ensures { Next (digit m) s.now spot result }
 {
-    if s.len() <= at {
-        return LOST;
-    }
-    let d = digit_in(s[at]) as u64;
-    if 15 < d {
-        return LOST;
-    }
-    Spot {
-        ok: true,
-        at: at + 1,
-        word: w + m * d,
-        refers: r,
-    }
+    let d = digit_in(*s.get(spot.at)?)?;
+    Some(Spot {
+        at: spot.at + 1,
+        word: spot.word + m * d as u64,
+        ..spot
+    })
 }
 
 // A label.
-fn step_name(s: &[u8], at: usize, w: u64, r: u64) -> Spot
-    requires { at ≤ length s.now }
-    ensures { Next name s.now at w r result }
+fn step_name(s: &[u8], spot: Spot) -> Option<Spot>
+    requires { spot.at ≤ length s.now }
+    ensures { Next name s.now spot result }
 {
-    let e = skip(NAME, s, at);
-    let k = label_key(&s[at..e]);
-    if k == 0 {
-        return LOST;
-    }
-    Spot {
-        ok: true,
-        at: e,
-        word: w,
-        refers: k,
-    }
+    let end = skip(s, spot.at, |b| !is_name_byte(*b));
+    let key = label_key(&s[spot.at..end])?;
+    Some(Spot {
+        at: end,
+        refers: key,
+        ..spot
+    })
 }
 
 // One byte of a form.
-fn step(b: u8, s: &[u8], at: usize, w: u64, r: u64) -> Spot
-    requires { (at ≤ length s.now) × (w < 16777216) }
-    ensures { Next (token b) s.now at w r result }
+fn step(b: u8, s: &[u8], spot: Spot) -> Option<Spot>
+    requires { (spot.at ≤ length s.now) × (spot.word < 16777216) }
+    ensures { Next (token b) s.now spot result }
 {
     match b {
-        b' ' => step_blank(s, at, w, r),
-        b'@' => step_name(s, at, w, r),
-        b'W' => step_digit(4096, s, at, w, r),
-        b'x' => step_digit(256, s, at, w, r),
-        b'y' => step_digit(16, s, at, w, r),
-        b'z' => step_digit(1, s, at, w, r),
-        _ => step_letter(b, s, at, w, r),
+        b' ' => step_blank(s, spot),
+        b'@' => step_name(s, spot),
+        b'W' => step_digit(4096, s, spot),
+        b'x' => step_digit(256, s, spot),
+        b'y' => step_digit(16, s, spot),
+        b'z' => step_digit(1, s, spot),
+        _ => step_letter(b, s, spot),
     }
 }
 
 // A text read by a form.
-fn scan(pattern: &[u8], base: u64, s: &[u8]) -> Seen
+fn scan(pattern: &[u8], base: u64, s: &[u8]) -> Option<Seen>
     requires { (length pattern.now ≤ 32) × (base < 65536) }
     ensures { result ≡ keyed (map token pattern.now) base 0 s.now }
 {
-    let mut i = 0;
-    let mut at = 0;
-    let mut w = base;
-    let mut r: u64 = 0;
-    while i < pattern.len() {
-        let n = step(pattern[i], s, at, w, r);
-        if !n.ok {
-            return UNREAD;
-        }
-        at = n.at;
-        w = n.word;
-        r = n.refers;
-        i += 1;
+    let mut spot = Spot {
+        at: 0,
+        word: base,
+        refers: 0,
+    };
+    for &b in pattern {
+        spot = step(b, s, spot)?;
     }
-    let e = skip(SPACES, s, at);
-    if e < s.len() {
-        return UNREAD;
+    let end = skip(s, spot.at, |b| *b != b' ');
+    if end < s.len() {
+        return None;
     }
-    Seen {
-        ok: true,
-        word: w,
-        refers: r,
-    }
+    Some(Seen {
+        word: spot.word,
+        refers: spot.refers,
+    })
 }
 
 // A text read by the form of this number.
-fn by_form(f: usize, s: &[u8]) -> Seen
+fn by_form(f: usize, s: &[u8]) -> Option<Seen>
     requires { f < 17 }
     ensures { result ≡ keyed (form_at forms f).pattern (form_at forms f).base 0 s.now }
 {
@@ -195,23 +147,17 @@ const FORMS: usize = 17;
 const HEADS: [u8; FORMS] = *b"LLLLSSRNSSRRRJJH.";
 
 // A text read by the first of the forms that fits.
-pub(crate) fn instruction(s: &[u8]) -> Seen
+pub(crate) fn instruction(s: &[u8]) -> Option<Seen>
     ensures { result ≡ seen (tried forms s.now) }
 {
-    if s.len() == 0 {
-        return UNREAD;
-    }
-    let head = s[0];
-    let mut f = 0;
-    while f < FORMS {
-        let g = f;
-        f += 1;
-        if HEADS[g] == head {
-            let n = by_form(g, s);
-            if n.ok {
-                return n;
+    let head = *s.first()?;
+    for (f, &first) in HEADS.iter().enumerate() {
+        if first == head {
+            let read = by_form(f, s);
+            if read.is_some() {
+                return read;
             }
         }
     }
-    UNREAD
+    None
 }

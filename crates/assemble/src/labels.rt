@@ -10,28 +10,18 @@ fn key_of(l: &[u8]) -> u64
     requires { length l.now ≤ 7 }
     ensures { result ≡ key l.now }
 {
-    let mut k: u64 = 0;
-    let mut i = l.len();
-    while 0 < i {
-        i -= 1;
-        k = k * 256 + l[i] as u64;
-    }
-    k
+    let mut bytes = [0u8; 8];
+    bytes[..l.len()].copy_from_slice(l);
+    u64::from_le_bytes(bytes)
 }
 
-// The key of a label, 0 where the bytes of a name are none.
-pub(crate) fn label_key(l: &[u8]) -> u64
+// The key of a label, where the bytes of a name are one.
+pub(crate) fn label_key(l: &[u8]) -> Option<u64>
     requires { all is_name_byte l.now ≡ true }
     ensures { result ≡ label_key l.now }
 {
-    if l.len() < 2 {
-        return 0;
+    if l.len() < 2 || 7 < l.len() || l[0] != b'L' {
+        return None;
     }
-    if 7 < l.len() {
-        return 0;
-    }
-    if l[0] != b'L' {
-        return 0;
-    }
-    key_of(l)
+    Some(key_of(l))
 }

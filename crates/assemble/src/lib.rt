@@ -13,18 +13,9 @@ mod text;
 pub use calls::{assemble, assemble_bytes};
 use listing::LISTING_WORDS;
 
-// The image of a text: `count` words and zeros behind them. Where `refused` is not 0, there are none.
-#[derive(Drop)]
+// The image of a text: `count` words and zeros behind them.
+#[derive(Clone, Copy, Debug, PartialEq, Eq)]
 pub struct Assembled {
     pub words: [u16; LISTING_WORDS],
     pub count: usize,
-    pub refused: u8,
-}
-
-// What an assembling call on bytes answers: the length of the image in bytes, or the number of the
-// refusal.
-#[derive(Drop)]
-pub enum Built {
-    Written(usize),
-    Refused(u8),
 }

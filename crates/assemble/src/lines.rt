@@ -1,108 +1,84 @@
 // A line: its label, its instruction, its comment.
-ghost use Rattle.std.specs.Prelude.{◌≡◌};
+ghost use Rattle.std.specs.Prelude.{◌≡◌, ◌<◌, length, IfSome};
+ghost use Rattle.assemble.specs.Grammar.{is_name_byte, forms, tried};
 ghost use Rattle.assemble.specs.Lines.{read_line, read_body};
-ghost use Rattle.assemble.specs.Reading.{Passed, row, row_seen, row_after, Labelled};
+ghost use Rattle.assemble.specs.Reading.{Passed, seen, row, row_seen, row_after, colon_key};
 
-use crate::bytes::{NAME, NO_COMMENT, SPACES, skip};
-use crate::forms::{Seen, instruction};
+use crate::bytes::{is_name_byte, skip};
+use crate::forms::instruction;
 use crate::labels::label_key;
 
-// The kinds of row: of a line that breaks the grammar, one that takes no address, one with a word.
-pub(crate) const BAD: u8 = 0;
-
-pub(crate) const EMPTY: u8 = 1;
-
-pub(crate) const WORD: u8 = 2;
-
-// A line as numbers: the key of its label, its word without the address that it refers to by a label, and
-// that label's key. Zeros where there is none.
-#[derive(Drop)]
-pub struct Row {
-    pub kind: u8,
+// A word with the key of its label, and that of the label whose address is added to it; 0 where there is none.
+// 0 stays, and no Option: it is `key`'s own number for no label, and a search then asks one thing of each entry.
+#[derive(Clone, Copy, Debug, PartialEq, Eq)]
+pub struct Entry {
     pub label: u64,
     pub word: u64,
     pub refers: u64,
 }
 
-const BAD_ROW: Row = Row {
-    kind: BAD,
-    label: 0,
-    word: 0,
-    refers: 0,
-};
+// A line that fits the grammar: one that takes no address, or one with a word.
+#[derive(Clone, Copy, Debug, PartialEq, Eq)]
+pub enum Row {
+    Empty,
+    Word(Entry),
+}
 
 // The row of an instruction, behind a label or none.
-fn row_of(l: u64, n: Seen) -> Row
-    ensures { result ≡ row_seen l n }
+fn word_row(label: u64, s: &[u8]) -> Option<Row>
+    ensures { result ≡ row_seen label (seen (tried forms s.now)) }
 {
-    if n.ok {
-        Row {
-            kind: WORD,
-            label: l,
-            word: n.word,
-            refers: n.refers,
-        }
-    } else {
-        BAD_ROW
-    }
+    let read = instruction(s)?;
+    Some(Row::Word(Entry {
+        label,
+        word: read.word,
+        refers: read.refers,
+    }))
 }
 
 // Behind a label's colon.
-fn labelled_row(l: u64, s: &[u8]) -> Row
-    ensures { result ≡ row_after l s.now }
+fn labelled_row(label: u64, s: &[u8]) -> Option<Row>
+    ensures { result ≡ row_after label s.now }
 {
-    if s.len() == 0 {
-        return BAD_ROW;
+    if *s.first()? != b' ' {
+        return None;
     }
-    if s[0] != b' ' {
-        return BAD_ROW;
-    }
-    let e = skip(SPACES, s, 0);
-    row_of(l, instruction(&s[e..]))
+    let start = skip(s, 0, |b| *b != b' ');
+    word_row(label, &s[start..])
 }
 
-// The key of the label that a line begins with, where its name ends at `e`; 0 where there is none with
-// its colon.
-fn colon_label(s: &[u8], e: usize) -> u64
-    requires { Passed 1 s.now 0 e }
-    ensures { Labelled s.now e result }
+// The key of the label that a line begins with, where its name ends at `end` and a colon stands behind it.
+fn colon_label(s: &[u8], end: usize) -> Option<u64>
+    requires { Passed is_name_byte s.now 0 end }
+    ensures key { result ≡ colon_key s.now }
+    ensures inside { IfSome result (λ l. end < length s.now) }
 {
-    if s.len() <= e {
-        return 0;
+    if *s.get(end)? != b':' {
+        return None;
     }
-    if s[e] != b':' {
-        return 0;
-    }
-    label_key(&s[0..e])
+    label_key(&s[..end])
 }
 
 // A line without its comment and the spaces in front.
-fn body_row(s: &[u8]) -> Row
+fn body_row(s: &[u8]) -> Option<Row>
     ensures { result ≡ row (read_body s.now) }
 {
-    if s.len() == 0 {
-        return Row {
-            kind: EMPTY,
-            label: 0,
-            word: 0,
-            refers: 0,
-        };
+    if s.is_empty() {
+        return Some(Row::Empty);
     }
-    let e = skip(NAME, s, 0);
-    let l = colon_label(s, e);
-    if l == 0 {
-        return row_of(0, instruction(s));
+    let end = skip(s, 0, |b| !is_name_byte(*b));
+    match colon_label(s, end) {
+        Some(label) => labelled_row(label, &s[end + 1..]),
+        None => word_row(0, s),
     }
-    let a = e + 1;
-    labelled_row(l, &s[a..])
 }
 
-// A line: its comment is cut off before anything else is tested.
-pub(crate) fn line_row(s: &[u8]) -> Row
+// A line, unless it breaks the grammar: its comment is cut off before anything else is tested.
+pub(crate) fn line_row(s: &[u8]) -> Option<Row>
     ensures { result ≡ row (read_line s.now) }
 {
-    let n = skip(NO_COMMENT, s, 0);
-    let cut = &s[0..n];
-    let e = skip(SPACES, cut, 0);
-    body_row(&cut[e..])
+    let end = skip(s, 0, |b| *b == b';');
+    let cut = &s[..end];
+    let start = skip(cut, 0, |b| *b != b' ');
+    body_row(&cut[start..])
 }

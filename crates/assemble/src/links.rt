@@ -1,92 +1,70 @@
 // From labels to addresses: whether a label stands on two lines, and the words with the addresses of
 // the labels that they refer to.
-ghost use Rattle.std.specs.Prelude.{◌≡◌, [], ◌+◌, ◌≤◌, length, drop};
-ghost use Rattle.assemble.specs.Assembly.{doubled, placed};
-ghost use Rattle.assemble.specs.Answer.{answered};
-ghost use Rattle.assemble.specs.Reading.{Linkable, resolved_as, linked};
+ghost use Rattle.std.specs.Prelude.{◌≡◌};
+ghost use Rattle.assemble.specs.Assembly.{doubled};
+ghost use Rattle.assemble.specs.Reading.{labels_in, Linkable, place_of, address_of, resolved_as, linked};
 
 use crate::Assembled;
+use crate::lines::Entry;
+use encoding::Refusal;
 use listing::LISTING_WORDS;
 
-// The first place from `at` on of a key, or the end.
-fn place(keys: &[u64], at: usize, key: u64) -> usize
-    requires { at ≤ length keys.now }
-    ensures { (result ≡ at + placed key (drop at keys.now)) × (result ≤ length keys.now) }
+// The first place of a label's key. It is asked too whether there is one: by `any` an assembly of 256 jumps to
+// 256 labels takes near twice as long.
+fn place(entries: &[Entry], key: u64) -> Option<usize>
+    ensures { result ≡ place_of key (labels_in entries.now) }
 {
-    let mut i = at;
-    while i < keys.len() {
-        if keys[i] == key {
-            return i;
-        }
-        i += 1;
-    }
-    i
+    entries.iter().position(|entry| entry.label == key)
 }
 
 // Whether a label stands on two lines. The key 0 is that of a line without a label.
-fn twice(keys: &[u64]) -> bool
-    ensures { result ≡ doubled keys.now }
+fn twice(entries: &[Entry]) -> bool
+    ensures { result ≡ doubled (labels_in entries.now) }
 {
-    let mut i = 0;
-    while i < keys.len() {
-        let key = keys[i];
-        i += 1;
-        if key != 0 {
-            if place(keys, i, key) < keys.len() {
-                return true;
-            }
+    for (i, entry) in entries.iter().enumerate() {
+        if entry.label != 0 && place(&entries[i + 1..], entry.label).is_some() {
+            return true;
         }
     }
     false
 }
 
-// The answer of a refused call: the number alone.
-pub(crate) fn refused(number: u8) -> Assembled
-    ensures { result ≡ answered number [] }
+// What is added to a word that refers to the label of this key. One search finds the label's address and
+// that there is none.
+fn address_of(entries: &[Entry], key: u64) -> Result<usize, Refusal>
+    ensures { result ≡ address_of (labels_in entries.now) key }
 {
-    Assembled {
-        words: [0u16; LISTING_WORDS],
-        count: 0,
-        refused: number,
+    if key == 0 {
+        return Ok(0);
     }
+    place(entries, key).ok_or(Refusal::Label)
 }
 
-// The words with the addresses of the labels that they refer to. One search finds a label's address and
-// that there is none.
-fn resolve(words: &[u64], keys: &[u64], refers: &[u64]) -> Assembled
-    requires { Linkable words.now keys.now refers.now }
-    ensures { result ≡ resolved_as words.now keys.now refers.now }
+// The words with the addresses of the labels that they refer to.
+fn resolve(entries: &[Entry]) -> Result<Assembled, Refusal>
+    requires { Linkable entries.now }
+    ensures { result ≡ resolved_as entries.now }
 {
     let mut out = [0u16; LISTING_WORDS];
-    let mut i = 0;
-    while i < words.len() {
-        let at = i;
-        i += 1;
-        let key = refers[at];
-        if key == 0 {
-            out[at] = words[at] as u16;
-            continue;
-        }
-        let address = place(keys, 0, key);
-        if address == keys.len() {
-            return refused(12);
-        }
-        out[at] = (words[at] + address as u64) as u16;
+    for (i, entry) in entries.iter().enumerate() {
+        let address = address_of(entries, entry.refers)?;
+        out[i] = (entry.word + address as u64) as u16;
     }
-    Assembled {
+    Ok(Assembled {
         words: out,
-        count: words.len(),
-        refused: 0,
-    }
+        count: entries.len(),
+    })
 }
 
-// The labels' tests, and the image.
-pub(crate) fn link(words: &[u64], keys: &[u64], refers: &[u64]) -> Assembled
-    requires { Linkable words.now keys.now refers.now }
-    ensures { result ≡ linked words.now keys.now refers.now }
+// The labels' tests, and the image. Not put in place, as `collect` is not: with all loops of a call in one
+// function an assembly takes a tenth longer.
+#[inline(never)]
+pub(crate) fn link(entries: &[Entry]) -> Result<Assembled, Refusal>
+    requires { Linkable entries.now }
+    ensures { result ≡ linked entries.now }
 {
-    if twice(keys) {
-        return refused(12);
+    if twice(entries) {
+        return Err(Refusal::Label);
     }
-    resolve(words, keys, refers)
+    resolve(entries)
 }

@@ -1,14 +1,17 @@
 // A whole text: its lines one after the other, and what is kept of them.
-ghost use Rattle.std.specs.Prelude.{◌≡◌, ◌<◌, length};
+ghost use Rattle.std.specs.Prelude.{◌≡◌, ◌<◌, length, IfOk};
+ghost use Rattle.encoding.specs.Refusal.{refused_by};
+ghost use Rattle.listing.specs.Listing.{listing_words};
 ghost use Rattle.assemble.specs.Assembly.{faulty};
-ghost use Rattle.assemble.specs.Reading.{LineAt, lines_from, Room, HeldUnless};
+ghost use Rattle.assemble.specs.Reading.{LineAt, lines_from, Held};
 
-use crate::bytes::{LINE, skip};
-use crate::lines::{BAD, EMPTY, line_row};
+use crate::bytes::skip;
+use crate::lines::{Entry, Row, line_row};
+use encoding::Refusal;
 use listing::LISTING_WORDS;
 
 // Where a line ends, and where the next begins.
-#[derive(Drop)]
+#[derive(Clone, Copy, Debug, PartialEq, Eq)]
 pub struct Bounds {
     pub end: usize,
     pub next: usize,
@@ -19,64 +22,35 @@ fn line_at(s: &[u8], at: usize) -> Bounds
     requires { at < length s.now }
     ensures { LineAt s.now at result }
 {
-    let e = skip(LINE, s, at);
-    if e < s.len() {
-        return Bounds {
-            end: e,
-            next: e + 1,
-        };
+    let end = skip(s, at, |b| *b == b'\n');
+    if end < s.len() {
+        return Bounds { end, next: end + 1 };
     }
-    Bounds { end: e, next: e }
+    Bounds { end, next: end }
 }
 
-// How many lines have a word, and the number of the refusal, 0 for none.
-#[derive(Drop)]
-pub struct Collected {
-    pub count: usize,
-    pub refused: u8,
-}
-
-// Words, labels and references of all lines, up to the first fault.
-pub(crate) fn collect(
-    text: &[u8],
-    words: &mut [u64; LISTING_WORDS],
-    labels: &mut [u64; LISTING_WORDS],
-    refers: &mut [u64; LISTING_WORDS],
-) -> Collected
-    requires { Room words.old labels.old refers.old }
-    ensures refused_value { result.refused ≡ faulty 0 (lines_from text.now 0) }
-    ensures held_unless { HeldUnless result.refused (lines_from text.now 0) result.count words.new labels.new refers.new }
+// The entries of all lines, and how many, unless a line is at fault.
+#[inline(never)]
+pub(crate) fn collect(text: &[u8], entries: &mut [Entry; LISTING_WORDS]) -> Result<usize, Refusal>
+    requires { length entries.old ≡ listing_words }
+    ensures refusal { refused_by result ≡ faulty 0 (lines_from text.now 0) }
+    ensures held { IfOk result (λ n. Held (lines_from text.now 0) n entries.new) }
 {
     let mut at = 0;
     let mut n = 0;
     while at < text.len() {
-        let b = line_at(text, at);
-        let end = b.end;
-        let row = line_row(&text[at..end]);
-        at = b.next;
-        let kind = row.kind;
-        if kind == BAD {
-            return Collected {
-                count: 0,
-                refused: 11,
-            };
+        let line = line_at(text, at);
+        let Some(row) = line_row(&text[at..line.end]) else {
+            return Err(Refusal::Grammar);
+        };
+        at = line.next;
+        if let Row::Word(entry) = row {
+            if n == LISTING_WORDS {
+                return Err(Refusal::WordCount);
+            }
+            entries[n] = entry;
+            n += 1;
         }
-        if kind == EMPTY {
-            continue;
-        }
-        if n == LISTING_WORDS {
-            return Collected {
-                count: 0,
-                refused: 13,
-            };
-        }
-        words[n] = row.word;
-        labels[n] = row.label;
-        refers[n] = row.refers;
-        n += 1;
     }
-    Collected {
-        count: n,
-        refused: 0,
-    }
+    Ok(n)
 }

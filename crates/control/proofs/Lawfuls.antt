@@ -1,6 +1,6 @@
 -- What the test of a control unit says, and when it holds.
 -- Assumes nothing.
-use Rattle.std.proofs.Common.{◌≡◌, ℕ, ◌-◌, ◌<◌, ◌≤◌, Bool, true, false, cond, ◌&&◌, eqb, ltb, leb, sym, refl, arith, le-ltb, lt-ltb, eq-eqb, ne_eqb, eqb-true, le-leb, leb-true}
+use Rattle.std.proofs.Common.{◌≡◌, ℕ, ◌-◌, ◌<◌, ◌≤◌, Bool, true, false, cond, ◌&&◌, eqb, ltb, leb, sym, refl, arith, le-ltb, lt-ltb, eq-eqb, eqb-true, le-leb, leb-true}
 use Rattle.isa.specs.Word.{decode_word}
 use Rattle.isa.proofs.Truths.{both}
 use Rattle.plan.specs.Plan.{execute_ticks_of}
@@ -9,13 +9,6 @@ use Rattle.control.specs.Lawful.{lawful}
 
 pub true-false : true ≡ false → ⊥
 true-false e = let z : ◌≡◌ {A = ℕ} 0 1 = cc in omega arith
-
--- what `is_lawful` answers in the execute ticks
-pub late_same : (t : ℕ) (h : Bool) (e n : ℕ) → t ≤ 6 → h ≡ false → 4 ≤ t → e ≡ n → ltb (t - 4) e ≡ leb t 6 && cond h true (cond (ltb t 4) true (eqb e n && ltb (t - 4) e))
-late_same t h e n p q r z = rw (le-leb t 6 p, q, le-ltb t 4 r, eq-eqb e n z)
-
-pub late_other : (t : ℕ) (h : Bool) (e n : ℕ) → t ≤ 6 → h ≡ false → 4 ≤ t → (e ≡ n → ⊥) → false ≡ leb t 6 && cond h true (cond (ltb t 4) true (eqb e n && ltb (t - 4) e))
-late_other t h e n p q r z = rw (le-leb t 6 p, q, le-ltb t 4 r, ne_eqb e n z)
 
 -- between instructions, or in the fetch
 pub lawful_fetch : (c : Control) → c.tick < 4 → lawful c ≡ true

@@ -1,7 +1,7 @@
 -- The control unit with one register anew (01, section 1; vm.rs, `Vm`).
 -- Every other file says by these what a tick or a call leaves of it, so that its fields are written out here alone.
 -- Assumes nothing.
-use Rattle.std.specs.Prelude.{ℕ, Bool, false}
+use Rattle.std.specs.Prelude.{ℕ, Bool, false, Option}
 use Rattle.control.specs.declared.control.Control.{Control}
 use Rattle.control.specs.declared.control.Fault.{Fault}
 use Rattle.control.specs.declared.control.BusTransfer.{BusTransfer}
@@ -124,11 +124,11 @@ with_halted v c = record {
 abbrev pub with_control : Control → State → State
 with_control v s = record { control = v; fault = s.fault; last_transfer = s.last_transfer; last_alu = s.last_alu }
 
-abbrev pub with_fault : Fault → State → State
+abbrev pub with_fault : Option Fault → State → State
 with_fault v s = record { control = s.control; fault = v; last_transfer = s.last_transfer; last_alu = s.last_alu }
 
-abbrev pub with_transfer : BusTransfer → State → State
+abbrev pub with_transfer : Option BusTransfer → State → State
 with_transfer v s = record { control = s.control; fault = s.fault; last_transfer = v; last_alu = s.last_alu }
 
-abbrev pub with_alu : AluRecord → State → State
+abbrev pub with_alu : Option AluRecord → State → State
 with_alu v s = record { control = s.control; fault = s.fault; last_transfer = s.last_transfer; last_alu = v }

@@ -1,8 +1,8 @@
 -- The four counters (01, section 1, refusal 9, and section 3; vm.rs, `micro_step`).
 -- Assumes nothing.
-use Rattle.std.specs.Prelude.{ℕ, zero, suc, ◌+◌, ◌%◌, ◌^◌, Bool, cond, ◌||◌, nat_lt}
+use Rattle.std.specs.Prelude.{ℕ, zero, suc, ◌+◌, ◌%◌, ◌^◌, Bool, cond, ◌||◌, nat_lt, Option, Some, None}
 use Rattle.control.specs.declared.control.BusTransfer.{BusTransfer}
-use Rattle.control.specs.declared.control.BusTransfer.TheVariants.{Idle, Read, Write}
+use Rattle.control.specs.declared.control.BusTransfer.TheVariants.{Read, Write}
 use Rattle.control.specs.declared.counters.Counters.{Counters}
 
 -- a running machine counts no further than this
@@ -26,15 +26,15 @@ more zero k = k
 more (suc n) k = one_more (more n k)
 
 -- a read and a write are counted apart
-abbrev pub count_transfer : BusTransfer → Counters → Counters
-count_transfer Idle k = k
-count_transfer (Read a v) k = record {
+abbrev pub count_transfer : Option BusTransfer → Counters → Counters
+count_transfer None k = k
+count_transfer (Some (Read a v)) k = record {
   instructions = k.instructions;
   micro_operations = k.micro_operations;
   bus_reads = one_more k.bus_reads;
   bus_writes = k.bus_writes;
 }
-count_transfer (Write a v) k = record {
+count_transfer (Some (Write a v)) k = record {
   instructions = k.instructions;
   micro_operations = k.micro_operations;
   bus_reads = k.bus_reads;
@@ -50,5 +50,5 @@ count_work completed k = record {
   bus_writes = k.bus_writes;
 }
 
-unfoldable pub count_tick : BusTransfer → Bool → Counters → Counters
+unfoldable pub count_tick : Option BusTransfer → Bool → Counters → Counters
 count_tick bus completed k = count_work completed (count_transfer bus k)

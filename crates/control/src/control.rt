@@ -6,39 +6,30 @@ ghost use Rattle.control.specs.Operation.{operation_name};
 use crate::address::Address;
 use isa::Text;
 
-// The fault that stopped the machine, if any: the Rust's Option<Fault>.
-#[derive(Clone, Copy)]
+// The fault that stopped the machine.
+#[derive(Clone, Copy, Debug, PartialEq, Eq)]
 pub enum Fault {
-    Healthy,
     UnknownInstruction { word: u16, address: u8 },
     StepBudgetExhausted { word: u16, address: u8 },
 }
 
-// One transfer across the bus, if there was one: the Rust's Option<BusTransfer>.
-#[derive(Clone, Copy)]
+// One transfer across the bus.
+#[derive(Clone, Copy, Debug, PartialEq, Eq)]
 pub enum BusTransfer {
-    Idle,
     Read { address: Address, value: u16 },
     Write { address: Address, value: u16 },
 }
 
-// A word that may be missing: the Rust's Option<u16>.
-#[derive(Clone, Copy)]
-pub enum WordOption {
-    Some(u16),
-    None,
-}
-
-// The circuits of the ALU.
-#[derive(Clone, Copy)]
+// The circuits of the ALU, by their numbers in answers; 0 is none.
+#[derive(Clone, Copy, Debug, PartialEq, Eq)]
 pub enum AluOperation {
-    Add,
-    Negate,
-    Shr,
-    Shl,
-    And,
-    Or,
-    Xor,
+    Add = 1,
+    Negate = 2,
+    Shr = 3,
+    Shl = 4,
+    And = 5,
+    Or = 6,
+    Xor = 7,
 }
 
 impl AluOperation {
@@ -46,35 +37,33 @@ impl AluOperation {
     pub fn name(self) -> Text
         ensures { result ≡ text (ascii (operation_name self)) }
     {
-        match self {
-            AluOperation::Add => Text::from_bytes(b"ADD"),
-            AluOperation::Negate => Text::from_bytes(b"NEGATE"),
-            AluOperation::Shr => Text::from_bytes(b"SHR"),
-            AluOperation::Shl => Text::from_bytes(b"SHL"),
-            AluOperation::And => Text::from_bytes(b"AND"),
-            AluOperation::Or => Text::from_bytes(b"OR"),
-            AluOperation::Xor => Text::from_bytes(b"XOR"),
-        }
+        let name: &[u8] = match self {
+            AluOperation::Add => b"ADD",
+            AluOperation::Negate => b"NEGATE",
+            AluOperation::Shr => b"SHR",
+            AluOperation::Shl => b"SHL",
+            AluOperation::And => b"AND",
+            AluOperation::Or => b"OR",
+            AluOperation::Xor => b"XOR",
+        };
+        Text::from_bytes(name)
     }
 }
 
-// The last operation of the ALU, if there was one: the Rust's Option<AluRecord>.
-#[derive(Clone, Copy)]
-pub enum AluRecord {
-    Unused,
-    Used {
-        operation: AluOperation,
-        left: u16,
-        right: WordOption,
-        result: u16,
-    },
+// An operation of the ALU: NEGATE has no right operand.
+#[derive(Clone, Copy, Debug, PartialEq, Eq)]
+pub struct AluRecord {
+    pub operation: AluOperation,
+    pub left: u16,
+    pub right: Option<u16>,
+    pub result: u16,
 }
 
-// The register that a tick writes, if it writes one.
-#[derive(Clone, Copy)]
-pub enum RegisterWrite {
-    Unwritten,
-    Written { register: u8, value: u16 },
+// A register that is written.
+#[derive(Clone, Copy, Debug, PartialEq, Eq)]
+pub struct RegisterWrite {
+    pub register: u8,
+    pub value: u16,
 }
 
 // The control unit and the registers beside it.
@@ -94,9 +83,9 @@ pub struct Control {
 #[derive(Clone, Copy)]
 pub struct State {
     pub control: Control,
-    pub fault: Fault,
-    pub last_transfer: BusTransfer,
-    pub last_alu: AluRecord,
+    pub fault: Option<Fault>,
+    pub last_transfer: Option<BusTransfer>,
+    pub last_alu: Option<AluRecord>,
 }
 
 // The words that one tick may read: the word at MAR, and registers x, y, z and 0.
@@ -114,7 +103,7 @@ pub struct Operands {
 #[derive(Drop)]
 pub struct Tick {
     pub state: State,
-    pub bus: BusTransfer,
-    pub write: RegisterWrite,
+    pub bus: Option<BusTransfer>,
+    pub write: Option<RegisterWrite>,
     pub completed: bool,
 }

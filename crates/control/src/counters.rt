@@ -16,51 +16,38 @@ pub struct Counters {
 }
 
 // Where one is so near its end, a running machine's ticks are refused 9.
+#[tactic(auto, unfolding(crate::specs::Count::over_counted))]
 pub fn is_over_counted(k: Counters) -> bool
     ensures { result ≡ over_counted k }
 {
-    if COUNTER_LIMIT < k.instructions {
-        return true;
-    }
-    if COUNTER_LIMIT < k.micro_operations {
-        return true;
-    }
-    if COUNTER_LIMIT < k.bus_reads {
-        return true;
-    }
-    COUNTER_LIMIT < k.bus_writes
+    COUNTER_LIMIT < k.instructions
+        || COUNTER_LIMIT < k.micro_operations
+        || COUNTER_LIMIT < k.bus_reads
+        || COUNTER_LIMIT < k.bus_writes
 }
 
 // With one transfer more over the bus, if there was one.
-fn count_transfer(k: Counters, bus: BusTransfer) -> Counters
+fn count_transfer(k: Counters, bus: Option<BusTransfer>) -> Counters
     ensures { result ≡ count_transfer bus k }
 {
     let mut counters = k;
     match bus {
-        BusTransfer::Idle => counters,
-        BusTransfer::Read { .. } => {
-            let reads = std::num::wrapping_add_u64(k.bus_reads, 1);
-            counters.bus_reads = reads;
-            counters
-        }
-        BusTransfer::Write { .. } => {
-            let writes = std::num::wrapping_add_u64(k.bus_writes, 1);
-            counters.bus_writes = writes;
-            counters
-        }
+        Some(BusTransfer::Read { .. }) => counters.bus_reads = k.bus_reads.wrapping_add(1),
+        Some(BusTransfer::Write { .. }) => counters.bus_writes = k.bus_writes.wrapping_add(1),
+        None => {}
     }
+    counters
 }
 
 // The counters after a tick, from its transfer and whether it completed an instruction that counts.
-pub fn count_tick(k: Counters, bus: BusTransfer, completed: bool) -> Counters
+#[tactic(auto, unfolding(crate::specs::Count::count_tick))]
+pub fn count_tick(k: Counters, bus: Option<BusTransfer>, completed: bool) -> Counters
     ensures { result ≡ count_tick bus completed k }
 {
     let mut counters = count_transfer(k, bus);
-    let ticks = std::num::wrapping_add_u64(counters.micro_operations, 1);
-    counters.micro_operations = ticks;
+    counters.micro_operations = counters.micro_operations.wrapping_add(1);
     if completed {
-        let instructions = std::num::wrapping_add_u64(counters.instructions, 1);
-        counters.instructions = instructions;
+        counters.instructions = counters.instructions.wrapping_add(1);
     }
     counters
 }

@@ -5,46 +5,40 @@ ghost use Rattle.control.specs.Last.{last_bus, last_address, last_value, last_se
 use crate::control::BusTransfer;
 
 // With its address and its value: that of the fetch, or a later one.
-pub fn last_bus(bus: BusTransfer, at: u8, word: u16) -> BusTransfer
+pub fn last_bus(bus: Option<BusTransfer>, at: u8, word: u16) -> Option<BusTransfer>
     ensures { result ≡ last_bus bus at word }
 {
-    match bus {
-        BusTransfer::Idle => BusTransfer::Read {
-            address: at,
-            value: word,
-        },
-        BusTransfer::Read { address, value } => BusTransfer::Read { address, value },
-        BusTransfer::Write { address, value } => BusTransfer::Write { address, value },
-    }
+    let fetch = BusTransfer::Read {
+        address: at,
+        value: word,
+    };
+    bus.or(Some(fetch))
 }
 
-pub fn last_address(bus: BusTransfer, at: u8) -> u8
+pub fn last_address(bus: Option<BusTransfer>, at: u8) -> u8
     ensures { result ≡ last_address bus at }
 {
     match bus {
-        BusTransfer::Idle => at,
-        BusTransfer::Read { address, value: _ } => address,
-        BusTransfer::Write { address, value: _ } => address,
+        Some(BusTransfer::Read { address, .. } | BusTransfer::Write { address, .. }) => address,
+        None => at,
     }
 }
 
-pub fn last_value(bus: BusTransfer, word: u16) -> u16
+pub fn last_value(bus: Option<BusTransfer>, word: u16) -> u16
     ensures { result ≡ last_value bus word }
 {
     match bus {
-        BusTransfer::Idle => word,
-        BusTransfer::Read { address: _, value } => value,
-        BusTransfer::Write { address: _, value } => value,
+        Some(BusTransfer::Read { value, .. } | BusTransfer::Write { value, .. }) => value,
+        None => word,
     }
 }
 
 // What the last tick sends: only STORE's is a transfer.
-pub fn last_sent(bus: BusTransfer) -> BusTransfer
+pub fn last_sent(bus: Option<BusTransfer>) -> Option<BusTransfer>
     ensures { result ≡ last_sent bus }
 {
     match bus {
-        BusTransfer::Idle => BusTransfer::Idle,
-        BusTransfer::Read { .. } => BusTransfer::Idle,
-        BusTransfer::Write { address, value } => BusTransfer::Write { address, value },
+        Some(BusTransfer::Write { .. }) => bus,
+        _ => None,
     }
 }

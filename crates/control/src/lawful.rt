@@ -7,23 +7,16 @@ use isa::Instruction;
 use plan::{FETCH_TICKS, execute_tick_count};
 
 // Where it is not, each call on the machine is refused 8.
+#[tactic(auto, unfolding(crate::specs::Lawful::lawful))]
 pub fn is_lawful(c: Control) -> bool
     ensures { result ≡ lawful c }
 {
-    let tick = c.tick;
-    if 6 < tick {
+    if 6 < c.tick {
         return false;
     }
-    if c.halted {
-        return true;
-    }
-    if tick < FETCH_TICKS {
+    if c.halted || c.tick < FETCH_TICKS {
         return true;
     }
     let n = execute_tick_count(Instruction::from_word(c.ir).opcode());
-    let e = c.execute_ticks;
-    if e == n {
-        return tick - FETCH_TICKS < e;
-    }
-    false
+    c.execute_ticks == n && c.tick - FETCH_TICKS < n
 }

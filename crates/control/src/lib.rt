@@ -10,10 +10,11 @@ mod last;
 mod lawful;
 
 pub use address::{ADDRESS_WIDTH, Address, reached_address};
-pub use codes::{AluCode, FAULT_WIDTH, FaultCode, TransferCode, WordCode, WriteCode, fault_of};
+pub use codes::{
+    AluCode, FAULT_WIDTH, FaultCode, TransferCode, WordCode, WriteCode, fault_bytes, fault_of,
+};
 pub use control::{
     AluOperation, AluRecord, BusTransfer, Control, Fault, Operands, RegisterWrite, State, Tick,
-    WordOption,
 };
 pub use counters::{Counters, count_tick, is_over_counted};
 pub use last::{last_address, last_bus, last_sent, last_value};

@@ -1,10 +1,10 @@
 -- The counters after a whole instruction: so many more at once, and one by one; and room for a stretch of instructions.
 -- Assumes nothing.
-use Rattle.std.proofs.Common.{◌≡◌, ℕ, zero, suc, ◌+◌, ◌-◌, ◌*◌, ◌%◌, ◌^◌, ◌≤◌, Bool, true, false, cond, refl, ap, ◌∙◌, arith, le-ltb, leb-true}
-use Rattle.isa.specs.declared.opcode.Decoded.{Decoded}
+use Rattle.std.proofs.Common.{◌≡◌, ℕ, zero, suc, ◌+◌, ◌-◌, ◌*◌, ◌%◌, ◌^◌, ◌≤◌, Bool, true, false, cond, ◌&&◌, refl, ap, ◌∙◌, arith, le-ltb, leb-true, Option, Some, None}
+use Rattle.isa.specs.declared.opcode.Opcode.{Opcode}
 use Rattle.plan.specs.Plan.{execute_ticks_of}
 use Rattle.control.specs.declared.control.BusTransfer.{BusTransfer}
-use Rattle.control.specs.declared.control.BusTransfer.TheVariants.{Idle, Read, Write}
+use Rattle.control.specs.declared.control.BusTransfer.TheVariants.{Read, Write}
 use Rattle.control.specs.declared.counters.Counters.{Counters}
 use Rattle.control.specs.Count.{counter_limit, over_counted, one_more, more}
 use Rattle.direct.specs.Work.{counts, reads_by, writes_by, count_whole}
@@ -41,17 +41,17 @@ one_counts : (c : Bool) (n x : ℕ) → x + 7 * suc n ≤ counter_limit → cond
 one_counts true n x h = omega arith
 one_counts false n x h = omega arith
 
-reads-count : (b : BusTransfer) (n x : ℕ) → x + 7 * suc n ≤ counter_limit → more (reads_by b) x + 7 * n ≤ counter_limit
-reads-count Idle n x h = omega arith
-reads-count (Read a v) n x h = omega arith
-reads-count (Write a v) n x h = omega arith
+reads-count : (b : Option BusTransfer) (n x : ℕ) → x + 7 * suc n ≤ counter_limit → more (reads_by b) x + 7 * n ≤ counter_limit
+reads-count None n x h = omega arith
+reads-count (Some (Read a v)) n x h = omega arith
+reads-count (Some (Write a v)) n x h = omega arith
 
-writes-count : (b : BusTransfer) (n x : ℕ) → x + 7 * suc n ≤ counter_limit → more (writes_by b) x + 7 * n ≤ counter_limit
-writes-count Idle n x h = omega arith
-writes-count (Read a v) n x h = omega arith
-writes-count (Write a v) n x h = omega arith
+writes-count : (b : Option BusTransfer) (n x : ℕ) → x + 7 * suc n ≤ counter_limit → more (writes_by b) x + 7 * n ≤ counter_limit
+writes-count None n x h = omega arith
+writes-count (Some (Read a v)) n x h = omega arith
+writes-count (Some (Write a v)) n x h = omega arith
 
-pub room_next : (n : ℕ) (d : Decoded) (b : BusTransfer) (k : Counters) → Room (suc n) k → Room n (count_whole d b k)
+pub room_next : (n : ℕ) (d : Option Opcode) (b : Option BusTransfer) (k : Counters) → Room (suc n) k → Room n (count_whole d b k)
 room_next n d b k r =
     let e = more_four (execute_ticks_of d) k.micro_operations in
     record {
@@ -66,8 +66,8 @@ pub room_whole : (k : Counters) → (length_for k ≡ 0 → ⊥) → (length_for
 room_whole k h = go (roomy k.instructions) (roomy k.micro_operations) (roomy k.bus_reads) (roomy k.bus_writes) refl refl refl refl h
   where
     go : (a b c d : Bool) → roomy k.instructions ≡ a → roomy k.micro_operations ≡ b → roomy k.bus_reads ≡ c → roomy k.bus_writes ≡ d
-        → (cond a (cond b (cond c (cond d stretch_length 0) 0) 0) 0 ≡ 0 → ⊥)
-        → (cond a (cond b (cond c (cond d stretch_length 0) 0) 0) 0 ≡ stretch_length) × Room stretch_length k
+        → (cond (a && (b && (c && d))) stretch_length 0 ≡ 0 → ⊥)
+        → (cond (a && (b && (c && d))) stretch_length 0 ≡ stretch_length) × Room stretch_length k
     go true true true true x y z w g = (refl, record { instructions = omega (arith, leb-true k.instructions (counter_limit - 7 * stretch_length) x); ticks = omega (arith, leb-true k.micro_operations (counter_limit - 7 * stretch_length) y); reads = omega (arith, leb-true k.bus_reads (counter_limit - 7 * stretch_length) z); writes = omega (arith, leb-true k.bus_writes (counter_limit - 7 * stretch_length) w) })
     go true true true false x y z w g = absurd (g refl)
     go true true false d x y z w g = absurd (g refl)

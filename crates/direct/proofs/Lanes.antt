@@ -1,10 +1,8 @@
 -- One instruction without its records: what its calls say is `slot_step`, and that is `light_step` and the marks of the light machine.
 -- Assumes nothing.
-use Rattle.std.proofs.Common.{◌≡◌, ℕ, suc, ◌+◌, ◌%◌, ◌^◌, ◌<◌, Bool, true, false, cond, not, ◌&&◌, eqb, List, take, sym, refl, ◌∙◌, subst, arith, eqb-true}
+use Rattle.std.proofs.Common.{◌≡◌, ℕ, suc, ◌+◌, ◌%◌, ◌^◌, ◌<◌, Bool, true, false, cond, not, eqb, List, get_or, take, sym, refl, ap, ◌∙◌, subst, arith, eqb-true, None, Option, Some}
 use Rattle.isa.specs.declared.opcode.Opcode.{Opcode}
-use Rattle.isa.specs.declared.opcode.Opcode.TheVariants.{LoadImmediate, LoadRegister, LoadMemory, StoreMemory, Add, Negate, ShiftRight, ShiftLeft, And, Or, Xor, Jump, Halt}
-use Rattle.isa.specs.declared.opcode.Decoded.{Decoded}
-use Rattle.isa.specs.declared.opcode.Decoded.TheVariants.{Known, Unknown}
+use Rattle.isa.specs.declared.opcode.Opcode.TheVariants.{Halt}
 use Rattle.isa.specs.Word.{decode_word}
 use Rattle.control.specs.declared.control.Fault.{Fault}
 use Rattle.control.specs.declared.control.Operands.{Operands}
@@ -21,17 +19,17 @@ use Rattle.trace.specs.Forms.{registers_by}
 use Rattle.trace.specs.Touched.{TouchFit, touched_by}
 use Rattle.trace.proofs.Writes.{one_of_sixteen}
 use Rattle.direct.specs.declared.work.Work.{Work}
-use Rattle.direct.specs.Work.{operands, worked, counts, halts, count_whole}
+use Rattle.direct.specs.Work.{operands, worked, halts, count_whole}
 use Rattle.direct.specs.Light.{work_of, light_step}
 use Rattle.direct.specs.Table.{Noted, noted_of, Table, touch_seen}
-use Rattle.direct.specs.Lane.{Slots, slots_of, slots_by, slot_step, slot_next, lasting_of, slot_word, goes_on, light_in, marks_in}
+use Rattle.direct.specs.Lane.{Slots, slots_of, slots_by, slot_step, slot_next, lasting_of, slot_word, next_opcode, opcode_at, light_in, marks_in}
 use Rattle.direct.proofs.Counts.{Room, room_next}
 use Rattle.direct.proofs.Words.{named, sends, unfaulted, stays}
 use Rattle.direct.proofs.Tables.{Live, touch_live}
 
 -- ---- the calls of one instruction
 
-pub is_step : (hid : ℕ → Bool) (d : Decoded) (w : ℕ) (s : Slots) (k : Work) {o : Operands} {p : ℕ} {n : Noted} {q : Marks} {m r : List ℕ} {c : Counters} {t : ℕ}
+pub is_step : (hid : ℕ → Bool) (d : Option Opcode) (w : ℕ) (s : Slots) (k : Work) {o : Operands} {p : ℕ} {n : Noted} {q : Marks} {m r : List ℕ} {c : Counters} {t : ℕ}
     → t ≡ total_by hid d w s.marks s.register_marks s.lane.hidden_total
     → q ≡ executed_marks d w (marks_of s.marks s.register_marks 0)
     → o ≡ operands w s.memory s.registers
@@ -50,76 +48,40 @@ is_step hid d w s k {n = n} {q} et eq eo ep ek er em en ec =
     ∙ (λ i. slots_by d s (e i) (touch_seen (e i).bus t) (executed_marks d w (marks_of s.marks s.register_marks 0)) (total_by hid d w s.marks s.register_marks s.lane.hidden_total))
 
 -- by its opcode, where it does not halt
-pub next_is : (hid : ℕ → Bool) (o : Opcode) (w : ℕ) (s : Slots) → halts (Known o) ≡ false → slot_next hid o w s ≡ slot_step hid (Known o) w s
-next_is hid LoadImmediate w s h = refl
-next_is hid LoadRegister w s h = refl
-next_is hid LoadMemory w s h = refl
-next_is hid StoreMemory w s h = refl
-next_is hid Add w s h = refl
-next_is hid Negate w s h = refl
-next_is hid ShiftRight w s h = refl
-next_is hid ShiftLeft w s h = refl
-next_is hid And w s h = refl
-next_is hid Or w s h = refl
-next_is hid Xor w s h = refl
-next_is hid Jump w s h = refl
+next_is : (hid : ℕ → Bool) (o : Opcode) (w : ℕ) (s : Slots) → halts (Some o) ≡ false → slot_next hid o w s ≡ slot_step hid (Some o) w s
 next_is hid Halt w s h = absurd (true-false h)
+next_is hid _ w s h = refl
 
 -- ---- the tests before it
 
--- more are asked for
-pub passes-more : (hid : ℕ → Bool) (b : List ℕ) (more : Bool) (s : Slots) → goes_on hid b more s ≡ true → (more ≡ true) × (goes_on hid b true s ≡ true)
-unfolding passes
-passes-more hid b true s e = (refl, e)
-passes-more hid b false s e = absurd (true-false (sym e))
+-- where the run goes on behind a word
+lasts : (d : Option Opcode) (o : Opcode) → lasting_of d ≡ Some o → (d ≡ Some o) × (halts (Some o) ≡ false)
+lasts None o e = absurd (cc)
+lasts (Some Halt) o e = absurd (cc)
+lasts (Some _) o e = (e, sym (ap halts e))
 
-pub record Passed (hid : ℕ → Bool) (b m w : ℕ) (r : List ℕ) : Type 0 where
+pub record Passed (hid : ℕ → Bool) (b m w : ℕ) (r : List ℕ) (o : Opcode) : Type 0 where
   pub here : b ≡ 0
   pub word : hid m ≡ false
   pub jump : hidden_jump hid w r ≡ false
+  pub decoded : decode_word w ≡ Some o
+  pub lasts : halts (Some o) ≡ false
 
-pub passed : (hid : ℕ → Bool) (b m w : ℕ) (r : List ℕ) → passes hid true b m && not (hidden_jump hid w r) ≡ true → Passed hid b m w r
+pub passed : (hid : ℕ → Bool) (b m w : ℕ) (r : List ℕ) (o : Opcode) → next_opcode hid b m w r ≡ Some o → Passed hid b m w r o
 unfolding passes
-passed hid b m w r e = go (eqb b 0) (hid m) (hidden_jump hid w r) refl refl refl e
+passed hid b m w r o e = go (eqb b 0) (hid m) (hidden_jump hid w r) refl refl refl e
   where
-    go : (z h j : Bool) → eqb b 0 ≡ z → hid m ≡ h → hidden_jump hid w r ≡ j → cond z (not h) false && not j ≡ true → Passed hid b m w r
-    go true false false a x y f = record { here = eqb-true b 0 a; word = x; jump = y }
-    go true false true a x y f = absurd (true-false (sym f))
-    go true true j a x y f = absurd (true-false (sym f))
-    go false h j a x y f = absurd (true-false (sym f))
+    go : (z h j : Bool) → eqb b 0 ≡ z → hid m ≡ h → hidden_jump hid w r ≡ j → cond {A = Option Opcode} (cond z (not h) false) (cond j None (lasting_of (decode_word w))) None ≡ Some o → Passed hid b m w r o
+    go true false false a x y f = let l = lasts (decode_word w) o f in record { here = eqb-true b 0 a; word = x; jump = y; decoded = l.0; lasts = l.1 }
+    go true false true a x y f = absurd (cc)
+    go true true j a x y f = absurd (cc)
+    go false h j a x y f = absurd (cc)
 
--- a word behind which the run goes on, and one behind which it does not
-pub lasts-known : (d : Decoded) (o : Opcode) → lasting_of d ≡ Known o → d ≡ Known o
-lasts-known (Known LoadImmediate) p e = e
-lasts-known (Known LoadRegister) p e = e
-lasts-known (Known LoadMemory) p e = e
-lasts-known (Known StoreMemory) p e = e
-lasts-known (Known Add) p e = e
-lasts-known (Known Negate) p e = e
-lasts-known (Known ShiftRight) p e = e
-lasts-known (Known ShiftLeft) p e = e
-lasts-known (Known And) p e = e
-lasts-known (Known Or) p e = e
-lasts-known (Known Xor) p e = e
-lasts-known (Known Jump) p e = e
-lasts-known (Known Halt) p e = absurd (let x : ◌≡◌ {A = ℕ} 0 1 = cc in omega arith)
-lasts-known Unknown p e = absurd (let x : ◌≡◌ {A = ℕ} 0 1 = cc in omega arith)
-
-pub lasts-counts : (d : Decoded) → counts (lasting_of d) ≡ true → halts d ≡ false
-lasts-counts (Known LoadImmediate) e = refl
-lasts-counts (Known LoadRegister) e = refl
-lasts-counts (Known LoadMemory) e = refl
-lasts-counts (Known StoreMemory) e = refl
-lasts-counts (Known Add) e = refl
-lasts-counts (Known Negate) e = refl
-lasts-counts (Known ShiftRight) e = refl
-lasts-counts (Known ShiftLeft) e = refl
-lasts-counts (Known And) e = refl
-lasts-counts (Known Or) e = refl
-lasts-counts (Known Xor) e = refl
-lasts-counts (Known Jump) e = refl
-lasts-counts (Known Halt) e = absurd (true-false (sym e))
-lasts-counts Unknown e = absurd (true-false (sym e))
+-- so it is made as what the word decodes to
+pub next_step : (hid : ℕ → Bool) (b : List ℕ) (s : Slots) (o : Opcode) → opcode_at hid b s ≡ Some o → slot_step hid (decode_word (slot_word s)) (slot_word s) s ≡ slot_next hid o (slot_word s) s
+next_step hid b s o e =
+    let p = passed hid (get_or b s.lane.pc 0) (get_or s.marks s.lane.pc 0) (slot_word s) s.register_marks o e in
+    ap (λ (d : Option Opcode). slot_step hid d (slot_word s) s) p.decoded ∙ sym (next_is hid o (slot_word s) s p.lasts)
 
 -- ---- what it does
 
@@ -128,11 +90,11 @@ pub record Noting (s : Slots) : Type 0 where
   pub fit : TouchFit s.lane.touched_len s.touched
   pub table : Table (take s.lane.touched_len s.touched) s.seen
 
-module _ (hid : ℕ → Bool) (f : Fault) (s : Slots) (t : Noting s) where
+module _ (hid : ℕ → Bool) (f : Option Fault) (s : Slots) (t : Noting s) where
   abbrev w : ℕ
   w = slot_word s
 
-  abbrev d : Decoded
+  abbrev d : Option Opcode
   d = decode_word w
 
   abbrev k : Work

@@ -1,6 +1,8 @@
 -- Many instructions without their records: a turn of the loops, and that they stand where so many instructions of the light machine lead, each of which a run and a guarded run would have begun.
 -- Assumes nothing.
-use Rattle.std.proofs.Common.{◌≡◌, ℕ, zero, suc, ◌+◌, ◌-◌, ◌*◌, ◌/◌, ◌<◌, ◌≤◌, Bool, true, false, ◌&&◌, eqb, ltb, List, get_or, take, sym, refl, ap, ◌∙◌, subst, arith, ltb-true, lt-ltb, eqb-true}
+use Rattle.std.proofs.Common.{◌≡◌, ℕ, zero, suc, ◌+◌, ◌-◌, ◌*◌, ◌/◌, ◌<◌, ◌≤◌, Bool, true, false, eqb, List, get_or, take, sym, refl, ap, ◌∙◌, subst, arith, eqb-true, eq-eqb, ne_eqb, None, Option, Some}
+use Rattle.std.specs.Option.{option_map_or}
+use Rattle.isa.specs.declared.opcode.Opcode.{Opcode}
 use native.Mathlib.Decide.{dec_lt}
 use Rattle.isa.specs.Word.{decode_word}
 use Rattle.control.specs.declared.control.Fault.{Fault}
@@ -10,66 +12,51 @@ use Rattle.marks.specs.Total.{IsCount}
 use Rattle.marks.proofs.Moves.{fetch_opens}
 use Rattle.trace.specs.Touched.{TouchFit}
 use Rattle.direct.specs.declared.light.Lane.{Lane}
-use Rattle.direct.specs.Work.{counts, halts}
+use Rattle.direct.specs.Work.{halts}
 use Rattle.direct.specs.Light.{Light, word_at, light_step, light_steps, marks_steps, Fast, FastFor}
 use Rattle.direct.specs.Table.{Table, table_of}
-use Rattle.direct.specs.Lane.{Slots, slots_of, slot_step, lasting_of, slot_word, goes_on, Stretch, stretched, only_if, stretch, stretch_length, length_for, Ahead, ahead, leads, forward, light_in, marks_in}
+use Rattle.direct.specs.Lane.{Slots, slots_of, slot_step, slot_next, slot_word, opcode_at, Stretch, stretched, only_if, stretch, stretch_length, length_for, Ahead, ahead, leads, forward, light_in, marks_in}
 use Rattle.direct.proofs.Tables.{table_is, unbroken}
 use Rattle.direct.proofs.Counts.{Room, room_now, room_whole}
-use Rattle.direct.proofs.Lanes.{passed, passes-more, lasts-counts, Noting, step_notes, step-light, step-marks, step-total, step_byte, step_room}
+use Rattle.direct.proofs.Lanes.{passed, next_step, Noting, step_notes, step-light, step-marks, step-total, step_byte, step_room}
 
 -- ---- a turn of the loop over instructions
 
 module _ (hid : ℕ → Bool) (b : List ℕ) (L k : ℕ) (s : Slots) where
-  abbrev next : Slots
-  next = slot_step hid (decode_word (slot_word s)) (slot_word s) s
-
-  abbrev more : ℕ
-  more = L - (k + 1)
-
-  some : k < L → stretch hid b (L - k) k s ≡ only_if (goes_on hid b true s && counts (lasting_of (decode_word (slot_word s)))) (stretched k s) (λ u. stretch hid b more (k + 1) next)
+  pub stretch_turn : k < L → stretch hid b (L - k) k s ≡ option_map_or (λ (o : Opcode). stretch hid b (L - (k + 1)) (k + 1) (slot_next hid o (slot_word s) s)) (opcode_at hid b s) (stretched k s)
   unfolding stretch
-  some h = let z : L - k ≡ suc more = omega arith in ap (λ (n : ℕ). stretch hid b n k s) z
+  stretch_turn h = let z : L - k ≡ suc (L - (k + 1)) = omega arith in ap (λ (n : ℕ). stretch hid b n k s) z
 
-  by : {g : Bool} → goes_on hid b true s && counts (lasting_of (decode_word (slot_word s))) ≡ g → k < L → stretch hid b (L - k) k s ≡ only_if g (stretched k s) (λ u. stretch hid b more (k + 1) next)
-  by e h = some h ∙ ap (λ (g : Bool). only_if g (stretched k s) (λ u. stretch hid b more (k + 1) next)) e
-
-  pub stretch-turn : goes_on hid b (ltb k L) s ≡ true → counts (lasting_of (decode_word (slot_word s))) ≡ true → (k < L) × (stretch hid b (L - k) k s ≡ stretch hid b more (k + 1) next)
-  stretch-turn e f = let p = passes-more hid b (ltb k L) s e in let h = ltb-true k L p.0 in (h, by {g = true} (rw (p.1, f)) h)
-
-  -- the next one does not pass
-  pub stretch-stop : goes_on hid b (ltb k L) s ≡ false → stretch hid b (L - k) k s ≡ stretched k s
+  pub stretch_over : L ≤ k → stretch hid b (L - k) k s ≡ stretched k s
   unfolding stretch
-  stretch-stop e = go (dec_lt k L)
-    where
-      go : Dec (k < L) → stretch hid b (L - k) k s ≡ stretched k s
-      go (yes h) = let g : goes_on hid b true s ≡ false = ap (λ (m : Bool). goes_on hid b m s) (sym (lt-ltb k L h)) ∙ e in by {g = false} (rw g) h
-      go (no h) = let z : L - k ≡ 0 = omega arith in ap (λ (n : ℕ). stretch hid b n k s) z
-
-  -- or it ends the run
-  pub stretch_end : goes_on hid b (ltb k L) s ≡ true → counts (lasting_of (decode_word (slot_word s))) ≡ false → stretch hid b (L - k) k s ≡ stretched k s
-  stretch_end e f = let p = passes-more hid b (ltb k L) s e in by {g = false} (rw (p.1, f)) (ltb-true k L p.0)
+  stretch_over h = let z : L - k ≡ 0 = omega arith in ap (λ (n : ℕ). stretch hid b n k s) z
 
 -- ---- a turn of the loop over stretches
 
-module _ (hid : ℕ → Bool) (b : List ℕ) (n k : ℕ) (kept : Ahead) (s : Slots) {m : ℕ} (f : m ≡ length_for s.lane.counters) {t : Stretch} (e : t ≡ stretch hid b m 0 s) where
-  whole : leads hid b (suc n) kept k s ≡ only_if (eqb t.made stretch_length) kept (λ u. leads hid b n (ahead k s) (k + stretch_length) t.slots)
+module _ (hid : ℕ → Bool) (b : List ℕ) (L n : ℕ) (kept : Ahead) (s : Slots) where
+  module _ {m : ℕ} (f : m ≡ length_for s.lane.counters) {t : Stretch} (e : t ≡ stretch hid b m 0 s) (h : n < L) where
+    whole : leads hid b (L - n) kept (n * stretch_length) s ≡ only_if (eqb t.made stretch_length) kept (λ u. leads hid b (L - (n + 1)) (ahead (n * stretch_length) s) ((n + 1) * stretch_length) t.slots)
+    unfolding leads
+    whole =
+        let z : L - n ≡ suc (L - (n + 1)) = omega arith in
+        let y : n * stretch_length + stretch_length ≡ (n + 1) * stretch_length = omega arith in
+        let g = sym (e ∙ ap (λ (j : ℕ). stretch hid b j 0 s) f) in
+        ap (λ (j : ℕ). leads hid b j kept (n * stretch_length) s) z
+        ∙ (λ i. only_if (eqb (g i).made stretch_length) kept (λ u. leads hid b (L - (n + 1)) (ahead (n * stretch_length) s) (y i) (g i).slots))
+
+    pub leads_turn : t.made ≡ stretch_length → leads hid b (L - n) kept (n * stretch_length) s ≡ leads hid b (L - (n + 1)) (ahead (n * stretch_length) s) ((n + 1) * stretch_length) t.slots
+    leads_turn q = rw (eq-eqb _ _ q) at whole
+
+    pub leads_stop : (t.made ≡ stretch_length → ⊥) → leads hid b (L - n) kept (n * stretch_length) s ≡ kept
+    leads_stop q = rw (ne_eqb _ _ q) at whole
+
+  pub leads_over : (k : ℕ) → L ≤ n → leads hid b (L - n) kept k s ≡ kept
   unfolding leads
-  whole = let g = sym (e ∙ ap (λ (j : ℕ). stretch hid b j 0 s) f) in λ i. only_if (eqb (g i).made stretch_length) kept (λ u. leads hid b n (ahead k s) (k + stretch_length) (g i).slots)
-
-  pub leads-turn : eqb t.made stretch_length ≡ true → leads hid b (suc n) kept k s ≡ leads hid b n (ahead k s) (k + stretch_length) t.slots
-  leads-turn h = whole ∙ ap (λ (g : Bool). only_if g kept (λ u. leads hid b n (ahead k s) (k + stretch_length) t.slots)) h
-
-  pub leads-stop : eqb t.made stretch_length ≡ false → leads hid b (suc n) kept k s ≡ kept
-  leads-stop h = whole ∙ ap (λ (g : Bool). only_if g kept (λ u. leads hid b n (ahead k s) (k + stretch_length) t.slots)) h
-
-pub leads-none : (hid : ℕ → Bool) (b : List ℕ) (n k : ℕ) (kept : Ahead) (s : Slots) → n ≡ 0 → leads hid b n kept k s ≡ kept
-unfolding leads
-leads-none hid b n k kept s e = ap (λ (m : ℕ). leads hid b m kept k s) e
+  leads_over k h = let z : L - n ≡ 0 = omega arith in ap (λ (j : ℕ). leads hid b j kept k s) z
 
 -- ---- where they stand: breakpoints, the fault, instructions begun before, the machine, its marks and their total at first, and how many were made since
 
-pub record Stands (hid : ℕ → Bool) (b : List ℕ) (f : Fault) (k : ℕ) (l : Light) (q : Marks) (u : ℕ) (j : ℕ) (s : Slots) : Type 0 where
+pub record Stands (hid : ℕ → Bool) (b : List ℕ) (f : Option Fault) (k : ℕ) (l : Light) (q : Marks) (u : ℕ) (j : ℕ) (s : Slots) : Type 0 where
   pub light : light_in f s ≡ light_steps j l
   pub marks : marks_in s ≡ mdr_marked 0 (marks_steps j l q)
   pub total : IsCount hid q.memory u → IsCount hid s.marks s.lane.hidden_total
@@ -77,7 +64,7 @@ pub record Stands (hid : ℕ → Bool) (b : List ℕ) (f : Fault) (k : ℕ) (l :
   pub notes : Noting s
   pub byte : s.lane.pc < 256
 
-module _ (hid : ℕ → Bool) (b t : List ℕ) (table : Table b t) (f : Fault) (k : ℕ) (l : Light) (q : Marks) (u : ℕ) where
+module _ (hid : ℕ → Bool) (b t : List ℕ) (table : Table b t) (f : Option Fault) (k : ℕ) (l : Light) (q : Marks) (u : ℕ) where
   moved : {i i' : ℕ} {m m' : Light} {p p' : Marks} → i ≡ i' → m ≡ m' → p ≡ p' → Fast hid b i m p → Fast hid b i' m' p'
   moved {i} {i'} {m} {m'} {p} {p'} x y z a =
       subst (λ (n : Marks). Fast hid b i' m' n) z (subst (λ (n : Light). Fast hid b i' n p) y (subst (λ (n : ℕ). Fast hid b n m p) x a))
@@ -93,10 +80,10 @@ module _ (hid : ℕ → Bool) (b t : List ℕ) (table : Table b t) (f : Fault) (
       at (yes y) = g i y
       at (no y) = here (omega arith)
 
-  fast_here : (j n : ℕ) (s : Slots) → Stands hid b f k l q u j s → Room n s.lane.counters → goes_on hid t true s ≡ true → halts (decode_word (slot_word s)) ≡ false → Fast hid b (k + j) (light_steps j l) (marks_steps j l q)
-  fast_here j n s a r e h =
-      let p = passed hid (get_or t s.lane.pc 0) (get_or s.marks s.lane.pc 0) (slot_word s) s.register_marks e in
-      let x : Fast hid b (k + j) (light_in f s) (marks_in s) = record { unbroken = unbroken b t (k + j) s.lane.pc table a.byte p.here; counted = room_now n s.lane.counters r; word = p.word; jump = p.jump; lasts = h } in
+  fast_here : (j n : ℕ) (s : Slots) (o : Opcode) → Stands hid b f k l q u j s → Room n s.lane.counters → opcode_at hid t s ≡ Some o → Fast hid b (k + j) (light_steps j l) (marks_steps j l q)
+  fast_here j n s o a r e =
+      let p = passed hid (get_or t s.lane.pc 0) (get_or s.marks s.lane.pc 0) (slot_word s) s.register_marks o e in
+      let x : Fast hid b (k + j) (light_in f s) (marks_in s) = record { unbroken = unbroken b t (k + j) s.lane.pc table a.byte p.here; counted = room_now n s.lane.counters r; word = p.word; jump = p.jump; lasts = ap halts p.decoded ∙ p.lasts } in
       let y : Fast hid b (k + j) (light_steps j l) (mdr_marked 0 (marks_steps j l q)) = moved refl a.light a.marks x in
       record { unbroken = y.unbroken; counted = y.counted; word = y.word; jump = y.jump; lasts = y.lasts }
 
@@ -108,9 +95,11 @@ module _ (hid : ℕ → Bool) (b t : List ℕ) (table : Table b t) (f : Fault) (
   unfolding marks_steps
   next_marks j = let z : suc j ≡ j + 1 = omega arith in ap (λ (n : ℕ). marks_steps n l q) z
 
-  stands_more : (j n : ℕ) (s : Slots) → Stands hid b f k l q u j s → Room n s.lane.counters → goes_on hid t true s ≡ true → halts (decode_word (slot_word s)) ≡ false → Stands hid b f k l q u (j + 1) (slot_step hid (decode_word (slot_word s)) (slot_word s) s)
-  stands_more j n s a r e h =
-      let g = fast_here j n s a r e h in
+  stands_more : (j n : ℕ) (s : Slots) (o : Opcode) → Stands hid b f k l q u j s → Room n s.lane.counters → opcode_at hid t s ≡ Some o → Stands hid b f k l q u (j + 1) (slot_step hid (decode_word (slot_word s)) (slot_word s) s)
+  stands_more j n s o a r e =
+      let p = passed hid (get_or t s.lane.pc 0) (get_or s.marks s.lane.pc 0) (slot_word s) s.register_marks o e in
+      let h : halts (decode_word (slot_word s)) ≡ false = ap halts p.decoded ∙ p.lasts in
+      let g = fast_here j n s o a r e in
       record {
         light = step-light hid f s a.notes h ∙ ap light_step a.light ∙ next_light j;
         marks =
@@ -128,21 +117,19 @@ module _ (hid : ℕ → Bool) (b t : List ℕ) (table : Table b t) (f : Fault) (
   unfolding stretch
   stretch_stands J zero i s a r = a
   stretch_stands J (suc n) i s a r =
-      go (goes_on hid t true s) (counts (lasting_of (decode_word (slot_word s)))) refl refl (λ e h.
+      go (opcode_at hid t s) refl (λ o e.
       let z : J + i + 1 ≡ J + (i + 1) = omega arith in
-      stretch_stands J n (i + 1) (slot_step hid (decode_word (slot_word s)) (slot_word s) s)
-      (subst (λ (m : ℕ). Stands hid b f k l q u m (slot_step hid (decode_word (slot_word s)) (slot_word s) s)) z (stands_more (J + i) (suc n) s a r e (lasts-counts (decode_word (slot_word s)) h)))
-      (step_room hid n s r))
+      let next = slot_step hid (decode_word (slot_word s)) (slot_word s) s in
+      subst (λ (y : Slots). Stands hid b f k l q u (J + (stretch hid t n (i + 1) y).made) (stretch hid t n (i + 1) y).slots) (next_step hid t s o e)
+      (stretch_stands J n (i + 1) next (subst (λ (m : ℕ). Stands hid b f k l q u m next) z (stands_more (J + i) (suc n) s o a r e)) (step_room hid n s r)))
     where
-      next : Slots
-      next = slot_step hid (decode_word (slot_word s)) (slot_word s) s
+      then : Opcode → Stretch
+      then o = stretch hid t n (i + 1) (slot_next hid o (slot_word s) s)
 
-      go : (g c : Bool) → goes_on hid t true s ≡ g → counts (lasting_of (decode_word (slot_word s))) ≡ c
-          → (goes_on hid t true s ≡ true → counts (lasting_of (decode_word (slot_word s))) ≡ true → Stands hid b f k l q u (J + (stretch hid t n (i + 1) next).made) (stretch hid t n (i + 1) next).slots)
-          → Stands hid b f k l q u (J + (only_if (g && c) (stretched i s) (λ u. stretch hid t n (i + 1) next)).made) (only_if (g && c) (stretched i s) (λ u. stretch hid t n (i + 1) next)).slots
-      go false c e h x = a
-      go true false e h x = a
-      go true true e h x = x e h
+      go : (d : Option Opcode) → opcode_at hid t s ≡ d → ((o : Opcode) → opcode_at hid t s ≡ Some o → Stands hid b f k l q u (J + (then o).made) (then o).slots)
+          → Stands hid b f k l q u (J + (option_map_or then d (stretched i s)).made) (option_map_or then d (stretched i s)).slots
+      go None e x = a
+      go (Some o) e x = x o e
 
   -- a whole one: there was room for it
   long : (c : Counters) (s : Slots) → eqb (stretch hid t (length_for c) 0 s).made stretch_length ≡ true → (length_for c ≡ stretch_length) × Room stretch_length c
@@ -178,7 +165,7 @@ module _ (hid : ℕ → Bool) (b t : List ℕ) (table : Table b t) (f : Fault) (
 
 -- ---- the whole of it, from a machine whose touched addresses are in order, whatever MDR's mark
 
-module _ (hid : ℕ → Bool) (b : List ℕ) (B : ℕ) (f : Fault) (k : ℕ) (s : Lane) (m r u x y : List ℕ) (d : ℕ) (byte : s.pc < 256) (fit : TouchFit s.touched_len u) where
+module _ (hid : ℕ → Bool) (b : List ℕ) (B : ℕ) (f : Option Fault) (k : ℕ) (s : Lane) (m r u x y : List ℕ) (d : ℕ) (byte : s.pc < 256) (fit : TouchFit s.touched_len u) where
   abbrev pub first : Slots
   first = slots_of s m r u (table_of (take s.touched_len u)) x y
 

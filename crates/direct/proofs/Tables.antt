@@ -1,11 +1,11 @@
 -- A table with 1 for each byte of a list, and an address noted by it.
 -- Assumes nothing.
-use Rattle.std.proofs.Common.{◌≡◌, ℕ, suc, ◌+◌, ◌<◌, ◌≤◌, Bool, true, false, cond, eqb, List, [], ◌∷◌, ◌++◌, length, get_or, take, drop, set, replicate, sym, refl, ap, ◌∙◌, append_assoc, add-one, arith, length-set, length-take-le, drop-cons, get_or-take, lt-ltb, eq-eqb, ne_eqb, eqb-true}
+use Rattle.std.proofs.Common.{◌≡◌, ℕ, suc, ◌+◌, ◌<◌, ◌≤◌, Bool, true, false, cond, eqb, List, [], ◌∷◌, ◌++◌, length, get_or, take, drop, set, replicate, sym, refl, ap, ◌∙◌, append_assoc, add-one, arith, length-set, length-take-le, drop-cons, get_or-take, lt-ltb, eq-eqb, ne_eqb, eqb-true, Option, Some, None}
 use borrow.Author.Tests.{eqb-false}
 use Rattle.isa.specs.Sizes.{memory_words}
 use Rattle.encoding.specs.Bytes.{member}
 use Rattle.control.specs.declared.control.BusTransfer.{BusTransfer}
-use Rattle.control.specs.declared.control.BusTransfer.TheVariants.{Idle, Read, Write}
+use Rattle.control.specs.declared.control.BusTransfer.TheVariants.{Read, Write}
 use Rattle.guard.specs.Stops.{reached}
 use Rattle.trace.specs.Touched.{noted, touched_by, Addressed, TouchFit}
 use Rattle.trace.specs.Forms.{places_of, note_in, touch_in}
@@ -78,10 +78,10 @@ module _ (items t : List ℕ) (n a : ℕ) (f : TouchFit n items) (g : Table (tak
     room : n < memory_words
     room =
         let l = length-take-le n items (omega (arith, f.count, f.long)) in
-        let b = below_of memory_words (take n items) (λ i h. rw (get_or-take n items i 0 (omega arith)) (f.below i)) in
+        let b = below_of memory_words (take n items) (λ i h. rw (get_or-take n items i 0 (omega arith)) (f.below i (omega arith))) in
         omega (arith, full memory_words a (take n items) f.differ b of_memory absent)
 
-    written : places_of (n + 1) (set items n a) ≡ touch_in (Write a 0) (places_of n items)
+    written : places_of (n + 1) (set items n a) ≡ touch_in (Some (Write a 0)) (places_of n items)
     unfolding touch_in note_in
     written = rw (lt-ltb n memory_words room, absent)
 
@@ -92,7 +92,7 @@ module _ (items t : List ℕ) (n a : ℕ) (f : TouchFit n items) (g : Table (tak
     new : Live (note_seen a (noted_of n items t)) (noted a (take n items))
     unfolding note_seen
     new =
-        let y = touched-live (Write a 0) (places_of n items) written of_memory f in
+        let y = touched-live (Some (Write a 0)) (places_of n items) written of_memory f in
         rw (ne_eqb _ 1 e, lt-ltb n memory_words room) (record { same = y.0; fit = y.1; table = rw added (table_next (take n items) t a g) })
 
   noted-live : Live (note_seen a (noted_of n items t)) (noted a (take n items))
@@ -102,7 +102,7 @@ module _ (items t : List ℕ) (n a : ℕ) (f : TouchFit n items) (g : Table (tak
       go true e = there (eqb-true _ 1 e)
       go false e = new (eqb-false _ 1 e)
 
-pub touch_live : (b : BusTransfer) (n : ℕ) (items t : List ℕ) → Addressed b → TouchFit n items → Table (take n items) t → Live (touch_seen b (noted_of n items t)) (touched_by b (take n items))
-touch_live Idle n items t h f g = record { same = refl; fit = f; table = g }
-touch_live (Read a v) n items t h f g = record { same = refl; fit = f; table = g }
-touch_live (Write a v) n items t h f g = noted-live items t n a f g h
+pub touch_live : (b : Option BusTransfer) (n : ℕ) (items t : List ℕ) → Addressed b → TouchFit n items → Table (take n items) t → Live (touch_seen b (noted_of n items t)) (touched_by b (take n items))
+touch_live None n items t h f g = record { same = refl; fit = f; table = g }
+touch_live (Some (Read a v)) n items t h f g = record { same = refl; fit = f; table = g }
+touch_live (Some (Write a v)) n items t h f g = noted-live items t n a f g h

@@ -1,7 +1,7 @@
 -- A whole instruction with its records: what its calls say is `whole_on`.
 -- Assumes nothing.
-use Rattle.std.proofs.Common.{◌≡◌, ℕ, ◌+◌, ◌%◌, ◌^◌, Bool, not, List, ◌∙◌}
-use Rattle.isa.specs.declared.opcode.Decoded.{Decoded}
+use Rattle.std.proofs.Common.{◌≡◌, ℕ, ◌+◌, ◌%◌, ◌^◌, Bool, not, List, ◌∙◌, Option}
+use Rattle.isa.specs.declared.opcode.Opcode.{Opcode}
 use Rattle.isa.specs.Word.{decode_word}
 use Rattle.plan.specs.Plan.{execute_ticks_of}
 use Rattle.control.specs.declared.control.BusTransfer.{BusTransfer}
@@ -19,7 +19,7 @@ use Rattle.direct.specs.Light.{taken_by}
 use Rattle.direct.specs.Whole.{Held, Wholly, whole_on}
 
 -- by the opcode, the word, its execute ticks, whether a jump is taken, and its work
-abbrev wholly_by : Decoded → ℕ → ℕ → Bool → Held → Work → Wholly
+abbrev wholly_by : Option Opcode → ℕ → ℕ → Bool → Held → Work → Wholly
 wholly_by d w e taken h k = record {
   held = record {
     state = state_by d w h.state.control.pc h.state.fault k;
@@ -35,7 +35,7 @@ wholly_by d w e taken h k = record {
   faulted = not (counts d);
 }
 
-pub is_wholly : (w : ℕ) (h : Held) (k : Work) {d : Decoded} {taken u : Bool} {e p : ℕ} {o : Operands} {m r : List ℕ} {t : Places} {q : Arrays} {c : Counters} {x : State} {b : BusTransfer}
+pub is_wholly : (w : ℕ) (h : Held) (k : Work) {d : Option Opcode} {taken u : Bool} {e p : ℕ} {o : Operands} {m r : List ℕ} {t : Places} {q : Arrays} {c : Counters} {x : State} {b : Option BusTransfer}
     → d ≡ decode_word w
     → taken ≡ taken_by w h.registers
     → e ≡ execute_ticks_of d

@@ -1,11 +1,10 @@
 -- The code's loop over instructions without records (02, Change 11): what is small by value, the arrays lent, marks beside the words. A reader need not
 -- believe it: `proofs/Stretches.antt` shows that it stands where `light_steps` and `marks_steps` of `Light` lead.
 -- Assumes nothing.
-use Rattle.std.specs.Prelude.{ℕ, zero, suc, ◌+◌, ◌-◌, ◌*◌, ◌/◌, ◌%◌, ◌^◌, Bool, true, false, cond, not, ◌&&◌, List, take, ◌==◌, nat_le, slice_index}
+use Rattle.std.specs.Prelude.{ℕ, zero, suc, ◌+◌, ◌-◌, ◌*◌, ◌/◌, ◌%◌, ◌^◌, Bool, true, false, cond, ◌&&◌, List, take, ◌==◌, nat_le, slice_index, None, Option, Some}
+use Rattle.std.specs.Option.{option_map_or}
 use Rattle.isa.specs.declared.opcode.Opcode.{Opcode}
-use Rattle.isa.specs.declared.opcode.Opcode.TheVariants.{LoadImmediate, LoadRegister, LoadMemory, StoreMemory, Add, Negate, ShiftRight, ShiftLeft, And, Or, Xor, Jump, Halt}
-use Rattle.isa.specs.declared.opcode.Decoded.{Decoded}
-use Rattle.isa.specs.declared.opcode.Decoded.TheVariants.{Known, Unknown}
+use Rattle.isa.specs.declared.opcode.Opcode.TheVariants.{Halt}
 use Rattle.isa.specs.Word.{decode_word}
 use Rattle.control.specs.declared.control.Fault.{Fault}
 use Rattle.marks.specs.Marks.{Marks, marks_of, executed_marks}
@@ -19,7 +18,7 @@ use Rattle.trace.specs.Forms.{Lent, registers_by}
 use Rattle.direct.specs.declared.work.Work.{Work}
 use Rattle.direct.specs.declared.light.Lane.{Lane}
 use Rattle.direct.specs.declared.light.Made.{Made}
-use Rattle.direct.specs.Work.{operands, worked, counts, count_whole}
+use Rattle.direct.specs.Work.{operands, worked, count_whole}
 use Rattle.direct.specs.Light.{Light}
 use Rattle.direct.specs.Table.{Noted, noted_of, table_of, touch_seen}
 
@@ -46,7 +45,7 @@ left s m r t n x y = slots_of s m.exit.now r.exit.now t.exit.now n.exit.now x.ex
 -- ---- one instruction
 
 -- after the work k of a word, with the addresses n noted, the marks q and the total t
-abbrev pub slots_by : Decoded → Slots → Work → Noted → Marks → ℕ → Slots
+abbrev pub slots_by : Option Opcode → Slots → Work → Noted → Marks → ℕ → Slots
 slots_by d s k n q t = record {
   lane = record { counters = count_whole d k.bus s.lane.counters; touched_len = n.places.count; alu = k.alu; hidden_total = t; pc = k.pc };
   memory = memory_after k.bus s.memory;
@@ -58,7 +57,7 @@ slots_by d s k n q t = record {
 }
 
 -- the word w, decoded; `hid` says which marks hide a value, from here on
-unfoldable pub slot_step : (ℕ → Bool) → Decoded → ℕ → Slots → Slots
+unfoldable pub slot_step : (ℕ → Bool) → Option Opcode → ℕ → Slots → Slots
 slot_step hid d w s =
     let k = worked d w ((s.lane.pc + 1) % 2 ^ 8) s.lane.alu (operands w s.memory s.registers) in
     slots_by d s k (touch_seen k.bus (noted_of s.lane.touched_len s.touched s.seen)) (executed_marks d w (marks_of s.marks s.register_marks 0))
@@ -66,38 +65,15 @@ slot_step hid d w s =
 
 -- the same by the opcode; HALT, which never passes, moves nothing
 abbrev pub slot_next : (ℕ → Bool) → Opcode → ℕ → Slots → Slots
-slot_next hid LoadImmediate w s = slot_step hid (Known LoadImmediate) w s
-slot_next hid LoadRegister w s = slot_step hid (Known LoadRegister) w s
-slot_next hid LoadMemory w s = slot_step hid (Known LoadMemory) w s
-slot_next hid StoreMemory w s = slot_step hid (Known StoreMemory) w s
-slot_next hid Add w s = slot_step hid (Known Add) w s
-slot_next hid Negate w s = slot_step hid (Known Negate) w s
-slot_next hid ShiftRight w s = slot_step hid (Known ShiftRight) w s
-slot_next hid ShiftLeft w s = slot_step hid (Known ShiftLeft) w s
-slot_next hid And w s = slot_step hid (Known And) w s
-slot_next hid Or w s = slot_step hid (Known Or) w s
-slot_next hid Xor w s = slot_step hid (Known Xor) w s
-slot_next hid Jump w s = slot_step hid (Known Jump) w s
 slot_next hid Halt w s = s
+slot_next hid o w s = slot_step hid (Some o) w s
 
 -- ---- a stretch of them
 
 -- what a word decodes to where the run goes on behind it: HALT ends a run, as a word without an opcode does
-abbrev pub lasting_of : Decoded → Decoded
-lasting_of (Known LoadImmediate) = Known LoadImmediate
-lasting_of (Known LoadRegister) = Known LoadRegister
-lasting_of (Known LoadMemory) = Known LoadMemory
-lasting_of (Known StoreMemory) = Known StoreMemory
-lasting_of (Known Add) = Known Add
-lasting_of (Known Negate) = Known Negate
-lasting_of (Known ShiftRight) = Known ShiftRight
-lasting_of (Known ShiftLeft) = Known ShiftLeft
-lasting_of (Known And) = Known And
-lasting_of (Known Or) = Known Or
-lasting_of (Known Xor) = Known Xor
-lasting_of (Known Jump) = Known Jump
-lasting_of (Known Halt) = Unknown
-lasting_of Unknown = Unknown
+abbrev pub lasting_of : Option Opcode → Option Opcode
+lasting_of (Some Halt) = None
+lasting_of d = d
 
 -- how many were made, and the slots after them
 pub record Stretch : Type 0 where
@@ -115,20 +91,18 @@ only_if true a f = f tt
 abbrev pub slot_word : Slots → ℕ
 slot_word s = slice_index s.memory s.lane.pc
 
--- whether the next one passes: the table of breakpoints, whether more are asked for
-abbrev pub passes_on : (ℕ → Bool) → List ℕ → Bool → Slots → Bool
-passes_on hid b more s = let pc = s.lane.pc in passes hid more (slice_index b pc) (slice_index s.marks pc)
+-- the opcode of the next one, where it passes, is no hidden jump, and the run goes on behind it: the table of breakpoints at its address, its mark,
+-- the word, the marks of the registers
+abbrev pub next_opcode : (ℕ → Bool) → ℕ → ℕ → ℕ → List ℕ → Option Opcode
+next_opcode hid b m w r = cond (passes hid true b m) (cond (hidden_jump hid w r) None (lasting_of (decode_word w))) None
 
--- and is no hidden jump
-abbrev pub goes_on : (ℕ → Bool) → List ℕ → Bool → Slots → Bool
-goes_on hid b more s = passes_on hid b more s && not (hidden_jump hid (slot_word s) s.register_marks)
+abbrev pub opcode_at : (ℕ → Bool) → List ℕ → Slots → Option Opcode
+opcode_at hid b s = let pc = s.lane.pc in next_opcode hid (slice_index b pc) (slice_index s.marks pc) (slot_word s) s.register_marks
 
--- as long as they pass and run on, at most n more where k were made
+-- as long as there is one, at most n more where k were made
 unfoldable pub stretch : (ℕ → Bool) → List ℕ → ℕ → ℕ → Slots → Stretch
 stretch hid b zero k s = stretched k s
-stretch hid b (suc n) k s =
-    let w = slot_word s in
-    only_if (goes_on hid b true s && counts (lasting_of (decode_word w))) (stretched k s) (λ u. stretch hid b n (k + 1) (slot_step hid (decode_word w) w s))
+stretch hid b (suc n) k s = option_map_or (λ o. stretch hid b n (k + 1) (slot_next hid o (slot_word s) s)) (opcode_at hid b s) (stretched k s)
 
 -- ---- stretch after stretch, each made whole: what is kept stays one behind
 
@@ -141,10 +115,7 @@ roomy n = nat_le n (counter_limit - 7 * stretch_length)
 
 -- how long the next stretch may be: none where a counter comes near its end in it
 abbrev pub length_for : Counters → ℕ
-length_for k =
-    cond (roomy k.instructions)
-    (cond (roomy k.micro_operations) (cond (roomy k.bus_reads) (cond (roomy k.bus_writes) stretch_length 0) 0) 0)
-    0
+length_for k = cond (roomy k.instructions && (roomy k.micro_operations && (roomy k.bus_reads && roomy k.bus_writes))) stretch_length 0
 
 -- what a call leaves: the table of touched addresses is its own
 pub record Ahead : Type 0 where
@@ -193,7 +164,7 @@ forward_from hid b n s m r t x y = forward hid b n s m.entry.now r.entry.now t.e
 
 -- ---- the light machine, with the fault that it has, and its marks
 
-abbrev pub light_in : Fault → Slots → Light
+abbrev pub light_in : Option Fault → Slots → Light
 light_in f s = record {
   pc = s.lane.pc;
   fault = f;

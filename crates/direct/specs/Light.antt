@@ -1,7 +1,7 @@
 -- Whole instructions without their records (02, Change 11): what the next instruction reads of a running machine that stands between two.
 -- Assumes nothing.
-use Rattle.std.specs.Prelude.{◌≡◌, ℕ, zero, suc, ◌+◌, ◌%◌, ◌^◌, ◌<◌, Bool, false, List, [], ◌++◌, ◌==◌, slice_index}
-use Rattle.isa.specs.declared.opcode.Decoded.{Decoded}
+use Rattle.std.specs.Prelude.{◌≡◌, ℕ, zero, suc, ◌+◌, ◌%◌, ◌^◌, ◌<◌, Bool, false, List, [], ◌++◌, ◌==◌, slice_index, Option}
+use Rattle.isa.specs.declared.opcode.Opcode.{Opcode}
 use Rattle.isa.specs.Word.{decode_word, digit_x}
 use Rattle.plan.specs.Plan.{execute_ticks_of}
 use Rattle.control.specs.declared.control.Fault.{Fault}
@@ -20,8 +20,8 @@ use Rattle.direct.specs.Work.{operands, worked, fault_by, halts, count_whole}
 -- all else of the state an instruction sets anew, and the trace it only adds to
 pub record Light : Type 0 where
   pub pc : ℕ
-  pub fault : Fault
-  pub alu : AluRecord
+  pub fault : Option Fault
+  pub alu : Option AluRecord
   pub counters : Counters
   pub memory : List ℕ
   pub registers : List ℕ
@@ -31,11 +31,11 @@ pub record Light : Type 0 where
 abbrev pub word_at : Light → ℕ
 word_at l = slice_index l.memory l.pc
 
-abbrev pub work_of : Decoded → ℕ → Light → Work
+abbrev pub work_of : Option Opcode → ℕ → Light → Work
 work_of d w l = worked d w ((l.pc + 1) % 2 ^ 8) l.alu (operands w l.memory l.registers)
 
 -- after the word w, decoded, and its work
-abbrev pub light_by : Decoded → ℕ → Light → Work → Light
+abbrev pub light_by : Option Opcode → ℕ → Light → Work → Light
 light_by d w l k = record {
   pc = k.pc;
   fault = fault_by d w l.pc l.fault;

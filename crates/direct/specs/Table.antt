@@ -1,11 +1,11 @@
 -- A table with 1 for each byte of a list, in place of a search: breakpoints, and the touched addresses. A reader need not believe it: `proofs/Tables.antt`
 -- shows what it says, and that `touch_seen` is `touched_by`.
 -- Assumes nothing.
-use Rattle.std.specs.Prelude.{◌≡◌, ℕ, ◌+◌, ◌<◌, cond, List, [], ◌∷◌, length, set, replicate, ◌==◌, nat_lt, slice_index, slice_set}
+use Rattle.std.specs.Prelude.{◌≡◌, ℕ, ◌+◌, ◌<◌, cond, List, [], ◌∷◌, length, set, replicate, ◌==◌, nat_lt, slice_index, slice_set, Option, Some, None}
 use Rattle.isa.specs.Sizes.{memory_words}
 use Rattle.encoding.specs.Bytes.{member}
 use Rattle.control.specs.declared.control.BusTransfer.{BusTransfer}
-use Rattle.control.specs.declared.control.BusTransfer.TheVariants.{Idle, Read, Write}
+use Rattle.control.specs.declared.control.BusTransfer.TheVariants.{Read, Write}
 use Rattle.trace.specs.Forms.{Lent, Places, places_of}
 
 -- a table with the bytes of one list more
@@ -46,7 +46,7 @@ note_seen a q =
     q
     (cond (nat_lt n memory_words) (noted_of (n + 1) (slice_set q.places.items n a) t) (noted_of n q.places.items t))
 
-abbrev pub touch_seen : BusTransfer → Noted → Noted
-touch_seen Idle q = q
-touch_seen (Read a v) q = q
-touch_seen (Write a v) q = note_seen a q
+abbrev pub touch_seen : Option BusTransfer → Noted → Noted
+touch_seen None q = q
+touch_seen (Some (Read a v)) q = q
+touch_seen (Some (Write a v)) q = note_seen a q

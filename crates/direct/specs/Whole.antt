@@ -1,7 +1,7 @@
 -- A whole instruction with its records, as the code holds it (02, Change 11): what is small by value, the arrays lent. A reader need not believe it: the
 -- proofs of `vm` show that it is the instruction's ticks.
 -- Assumes nothing.
-use Rattle.std.specs.Prelude.{ℕ, ◌+◌, ◌%◌, ◌^◌, Bool, not, List}
+use Rattle.std.specs.Prelude.{ℕ, ◌+◌, ◌%◌, ◌^◌, Bool, not, List, Option}
 use Rattle.isa.specs.Word.{decode_word}
 use Rattle.plan.specs.Plan.{execute_ticks_of}
 use Rattle.control.specs.declared.control.BusTransfer.{BusTransfer}
@@ -47,8 +47,8 @@ held_at_last s m r t k i l = held_of s m.exit.now r.exit.now t.exit.now k.exit.n
 pub record Wholly : Type 0 where
   pub held : Held
   pub ticks : ℕ
-  pub bus : BusTransfer
-  pub write : RegisterWrite
+  pub bus : Option BusTransfer
+  pub write : Option RegisterWrite
   pub faulted : Bool
 
 abbrev pub wholly_of : Whole → Held → Wholly

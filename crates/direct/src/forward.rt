@@ -19,19 +19,14 @@ const ROOMY: u64 = 18446744073709549808;
 fn stretch_length(k: Counters) -> Begun
     ensures { result.0 ≡ length_for k }
 {
-    if ROOMY < k.instructions {
-        return Begun(0);
+    if k.instructions <= ROOMY
+        && k.micro_operations <= ROOMY
+        && k.bus_reads <= ROOMY
+        && k.bus_writes <= ROOMY
+    {
+        return Begun(STRETCH);
     }
-    if ROOMY < k.micro_operations {
-        return Begun(0);
-    }
-    if ROOMY < k.bus_reads {
-        return Begun(0);
-    }
-    if ROOMY < k.bus_writes {
-        return Begun(0);
-    }
-    Begun(STRETCH)
+    Begun(0)
 }
 
 // At most `limit` instructions, stretch after stretch on copies, as long as each is made whole: the lent arrays stay
@@ -51,9 +46,7 @@ pub fn light_forward(
     ensures { ahead_at_last result memory registers touched marks register_marks
         ≡ forward_from (hidden_from clearance) breakpoints.now limit.0 from memory registers touched marks register_marks }
 {
-    let most = limit.0;
-    let mut left = most / STRETCH;
-    if left == 0 {
+    if limit.0 < STRETCH {
         return Made {
             lane: from,
             made: Begun(0),
@@ -67,27 +60,18 @@ pub fn light_forward(
     let mut marks2 = *marks;
     let mut register_marks2 = *register_marks;
     let mut kept = from;
-    let mut kept_made: u64 = 0;
+    let mut kept_made = 0;
     let mut s = from;
-    let mut made: u64 = 0;
-    loop {
-        if left == 0 {
-            return Made {
-                lane: kept,
-                made: Begun(kept_made),
-            };
-        }
+    for turn in 0..limit.0 / STRETCH {
         let memory3 = memory2;
         let registers3 = registers2;
         let touched3 = touched2;
         let marks3 = marks2;
         let register_marks3 = register_marks2;
-        let counters = s.counters;
-        let length = stretch_length(counters);
         let m = light_stretch(
             clearance,
             s,
-            length,
+            stretch_length(s.counters),
             &breaks,
             &mut memory2,
             &mut registers2,
@@ -97,10 +81,7 @@ pub fn light_forward(
             &mut register_marks2,
         );
         if m.made.0 != STRETCH {
-            return Made {
-                lane: kept,
-                made: Begun(kept_made),
-            };
+            break;
         }
         *memory = memory3;
         *registers = registers3;
@@ -108,10 +89,11 @@ pub fn light_forward(
         *marks = marks3;
         *register_marks = register_marks3;
         kept = s;
-        kept_made = made;
-        let next = m.lane;
-        s = next;
-        made += STRETCH;
-        left -= 1;
+        kept_made = turn * STRETCH;
+        s = m.lane;
+    }
+    Made {
+        lane: kept,
+        made: Begun(kept_made),
     }
 }

@@ -1,13 +1,13 @@
 // Instructions without their records: what is small by value, the arrays lent, the marks beside the words.
 ghost use Rattle.std.specs.Prelude.{◌≡◌};
 ghost use Rattle.marks.specs.Owners.{hidden_from};
-ghost use Rattle.direct.specs.Lane.{came, left, slot_step, slot_next, lasting_of, stretched, stretch};
+ghost use Rattle.direct.specs.Lane.{came, left, slot_step, slot_next, lasting_of, next_opcode, stretched, stretch};
 
 use crate::table::touch_seen;
 use crate::work::{count_whole, read_operands, work_of};
 use control::{Address, AluRecord, Counters};
 use guard::{Begun, hidden_by, may_go};
-use isa::{Decoded, Instruction, MEMORY_WORDS, Opcode, REGISTER_COUNT};
+use isa::{Instruction, MEMORY_WORDS, Opcode, REGISTER_COUNT};
 use marks::{mark_decoded, total_decoded};
 use trace::{set_register, set_word};
 
@@ -16,15 +16,18 @@ use trace::{set_register, set_word};
 pub struct Lane {
     pub counters: Counters,
     pub touched_len: usize,
-    pub alu: AluRecord,
+    pub alu: Option<AluRecord>,
     pub hidden_total: u16,
     pub pc: u8,
 }
 
-// One instruction, by its word and what that decodes to.
+// One instruction, by its word and what that decodes to. Each array is lent alone here and below: the machine has them
+// as fields of its own, and the compiler keeps apart what is lent apart. It is put in place of each call of `light_known`:
+// left to itself the compiler joins these calls, by what else is in the program, and a run takes ten times as long.
+#[inline(always)]
 fn light_instruction(
     clearance: u8,
-    decoded: Decoded,
+    decoded: Option<Opcode>,
     word: u16,
     s: Lane,
     memory: &mut [u16; MEMORY_WORDS],
@@ -37,7 +40,7 @@ fn light_instruction(
     ensures { left result memory registers touched seen marks register_marks
         ≡ slot_step (hidden_from clearance) decoded word (came s memory registers touched seen marks register_marks) }
 {
-    let total = total_decoded(
+    let hidden_total = total_decoded(
         clearance,
         decoded,
         word,
@@ -47,27 +50,21 @@ fn light_instruction(
     );
     mark_decoded(decoded, word, marks, register_marks);
     let o = read_operands(word, memory, registers);
-    let next = std::num::wrapping_add_u8(s.pc, 1);
-    let alu = s.alu;
-    let work = work_of(decoded, word, next, alu, o);
-    let write = work.write;
-    let bus = work.bus;
-    let result = work.alu;
-    set_register(write, registers);
-    set_word(bus, memory);
-    let n = touch_seen(bus, touched, s.touched_len, seen);
-    let counters = count_whole(decoded, bus, s.counters);
+    let work = work_of(decoded, word, s.pc.wrapping_add(1), s.alu, o);
+    set_register(work.write, registers);
+    set_word(work.bus, memory);
+    let touched_len = touch_seen(work.bus, touched, s.touched_len, seen);
     Lane {
-        counters,
-        alu: result,
-        touched_len: n,
-        hidden_total: total,
+        counters: count_whole(decoded, work.bus, s.counters),
+        touched_len,
+        alu: work.alu,
+        hidden_total,
         pc: work.pc,
     }
 }
 
 // The same, with a call for each opcode: the compiler then makes code for each, and asks for the opcode once. HALT
-// never passes; that it has no call keeps the compiler from making the calls one again.
+// never passes.
 fn light_known(
     clearance: u8,
     opcode: Opcode,
@@ -83,151 +80,35 @@ fn light_known(
     ensures { left result memory registers touched seen marks register_marks
         ≡ slot_next (hidden_from clearance) opcode word (came s memory registers touched seen marks register_marks) }
 {
+    macro_rules! made {
+        ($opcode:ident) => {
+            light_instruction(
+                clearance,
+                Some(Opcode::$opcode),
+                word,
+                s,
+                memory,
+                registers,
+                touched,
+                seen,
+                marks,
+                register_marks,
+            )
+        };
+    }
     match opcode {
-        Opcode::LoadImmediate => light_instruction(
-            clearance,
-            Decoded::Known(Opcode::LoadImmediate),
-            word,
-            s,
-            memory,
-            registers,
-            touched,
-            seen,
-            marks,
-            register_marks,
-        ),
-        Opcode::LoadRegister => light_instruction(
-            clearance,
-            Decoded::Known(Opcode::LoadRegister),
-            word,
-            s,
-            memory,
-            registers,
-            touched,
-            seen,
-            marks,
-            register_marks,
-        ),
-        Opcode::LoadMemory => light_instruction(
-            clearance,
-            Decoded::Known(Opcode::LoadMemory),
-            word,
-            s,
-            memory,
-            registers,
-            touched,
-            seen,
-            marks,
-            register_marks,
-        ),
-        Opcode::StoreMemory => light_instruction(
-            clearance,
-            Decoded::Known(Opcode::StoreMemory),
-            word,
-            s,
-            memory,
-            registers,
-            touched,
-            seen,
-            marks,
-            register_marks,
-        ),
-        Opcode::Add => light_instruction(
-            clearance,
-            Decoded::Known(Opcode::Add),
-            word,
-            s,
-            memory,
-            registers,
-            touched,
-            seen,
-            marks,
-            register_marks,
-        ),
-        Opcode::Negate => light_instruction(
-            clearance,
-            Decoded::Known(Opcode::Negate),
-            word,
-            s,
-            memory,
-            registers,
-            touched,
-            seen,
-            marks,
-            register_marks,
-        ),
-        Opcode::ShiftRight => light_instruction(
-            clearance,
-            Decoded::Known(Opcode::ShiftRight),
-            word,
-            s,
-            memory,
-            registers,
-            touched,
-            seen,
-            marks,
-            register_marks,
-        ),
-        Opcode::ShiftLeft => light_instruction(
-            clearance,
-            Decoded::Known(Opcode::ShiftLeft),
-            word,
-            s,
-            memory,
-            registers,
-            touched,
-            seen,
-            marks,
-            register_marks,
-        ),
-        Opcode::And => light_instruction(
-            clearance,
-            Decoded::Known(Opcode::And),
-            word,
-            s,
-            memory,
-            registers,
-            touched,
-            seen,
-            marks,
-            register_marks,
-        ),
-        Opcode::Or => light_instruction(
-            clearance,
-            Decoded::Known(Opcode::Or),
-            word,
-            s,
-            memory,
-            registers,
-            touched,
-            seen,
-            marks,
-            register_marks,
-        ),
-        Opcode::Xor => light_instruction(
-            clearance,
-            Decoded::Known(Opcode::Xor),
-            word,
-            s,
-            memory,
-            registers,
-            touched,
-            seen,
-            marks,
-            register_marks,
-        ),
-        Opcode::Jump => light_instruction(
-            clearance,
-            Decoded::Known(Opcode::Jump),
-            word,
-            s,
-            memory,
-            registers,
-            touched,
-            seen,
-            marks,
-            register_marks,
-        ),
+        Opcode::LoadImmediate => made!(LoadImmediate),
+        Opcode::LoadRegister => made!(LoadRegister),
+        Opcode::LoadMemory => made!(LoadMemory),
+        Opcode::StoreMemory => made!(StoreMemory),
+        Opcode::Add => made!(Add),
+        Opcode::Negate => made!(Negate),
+        Opcode::ShiftRight => made!(ShiftRight),
+        Opcode::ShiftLeft => made!(ShiftLeft),
+        Opcode::And => made!(And),
+        Opcode::Or => made!(Or),
+        Opcode::Xor => made!(Xor),
+        Opcode::Jump => made!(Jump),
         Opcode::Halt => s,
     }
 }
@@ -240,31 +121,54 @@ pub struct Made {
 }
 
 // What a word decodes to where the run goes on behind it: HALT ends a run, as a word without an opcode does.
-fn lasting(decoded: Decoded) -> Decoded
+// Tried with one row for all but HALT: a run of stores then takes 50 of the processor's instructions for each of ours, not 36.
+fn lasting(decoded: Option<Opcode>) -> Option<Opcode>
     ensures { result ≡ lasting_of decoded }
 {
-    let Decoded::Known(opcode) = decoded else {
-        return Decoded::Unknown;
+    let Some(opcode) = decoded else {
+        return None;
     };
     match opcode {
-        Opcode::LoadImmediate => Decoded::Known(Opcode::LoadImmediate),
-        Opcode::LoadRegister => Decoded::Known(Opcode::LoadRegister),
-        Opcode::LoadMemory => Decoded::Known(Opcode::LoadMemory),
-        Opcode::StoreMemory => Decoded::Known(Opcode::StoreMemory),
-        Opcode::Add => Decoded::Known(Opcode::Add),
-        Opcode::Negate => Decoded::Known(Opcode::Negate),
-        Opcode::ShiftRight => Decoded::Known(Opcode::ShiftRight),
-        Opcode::ShiftLeft => Decoded::Known(Opcode::ShiftLeft),
-        Opcode::And => Decoded::Known(Opcode::And),
-        Opcode::Or => Decoded::Known(Opcode::Or),
-        Opcode::Xor => Decoded::Known(Opcode::Xor),
-        Opcode::Jump => Decoded::Known(Opcode::Jump),
-        Opcode::Halt => Decoded::Unknown,
+        Opcode::LoadImmediate => Some(Opcode::LoadImmediate),
+        Opcode::LoadRegister => Some(Opcode::LoadRegister),
+        Opcode::LoadMemory => Some(Opcode::LoadMemory),
+        Opcode::StoreMemory => Some(Opcode::StoreMemory),
+        Opcode::Add => Some(Opcode::Add),
+        Opcode::Negate => Some(Opcode::Negate),
+        Opcode::ShiftRight => Some(Opcode::ShiftRight),
+        Opcode::ShiftLeft => Some(Opcode::ShiftLeft),
+        Opcode::And => Some(Opcode::And),
+        Opcode::Or => Some(Opcode::Or),
+        Opcode::Xor => Some(Opcode::Xor),
+        Opcode::Jump => Some(Opcode::Jump),
+        Opcode::Halt => None,
     }
 }
 
-// Instructions as long as they pass and run on, at most `limit`; `breaks` is the table of breakpoints. A hidden jump is
-// asked for behind the opcode, so that no other instruction is.
+// The opcode of the next instruction, where it passes and the run goes on behind it: by the table of breakpoints at
+// its address, its mark, the word. A hidden jump is asked for behind the opcode, so that no other instruction is.
+#[tactic(auto, using(isa::proofs::Words::read_off))]
+fn next_opcode(
+    clearance: u8,
+    break_here: u8,
+    mark_here: u8,
+    word: u16,
+    register_marks: &[u8; REGISTER_COUNT],
+) -> Option<Opcode>
+    ensures { result ≡ next_opcode (hidden_from clearance) break_here mark_here word register_marks.now }
+{
+    if !may_go(clearance, true, break_here, mark_here) {
+        return None;
+    }
+    let found = Instruction::from_word(word).opcode();
+    if hidden_by(clearance, found, word, register_marks) {
+        return None;
+    }
+    lasting(found)
+}
+
+// Instructions as long as they pass and run on, at most `limit`; `breaks` is the table of breakpoints.
+#[tactic(auto, using(crate::proofs::Stretches::stretch_turn, crate::proofs::Stretches::stretch_over))]
 pub(crate) fn light_stretch(
     clearance: u8,
     from: Lane,
@@ -280,35 +184,18 @@ pub(crate) fn light_stretch(
     ensures { stretched result.made.0 (left result.lane memory registers touched seen marks register_marks)
         ≡ stretch (hidden_from clearance) breaks.now limit.0 0 (came from memory registers touched seen marks register_marks) }
 {
-    let most = limit.0;
     let mut s = from;
-    let mut made: u64 = 0;
-    loop {
+    for made in 0..limit.0 {
         let at = s.pc as usize;
         let word = memory[at];
-        let go = may_go(clearance, made < most, breaks[at], marks[at]);
-        if !go {
-            return Made {
-                lane: s,
-                made: Begun(made),
-            };
-        }
-        let found = Instruction::from_word(word).opcode();
-        let hidden = hidden_by(clearance, found, word, register_marks);
-        if hidden {
-            return Made {
-                lane: s,
-                made: Begun(made),
-            };
-        }
-        let decoded = lasting(found);
-        let Decoded::Known(opcode) = decoded else {
+        let Some(opcode) = next_opcode(clearance, breaks[at], marks[at], word, register_marks)
+        else {
             return Made {
                 lane: s,
                 made: Begun(made),
             };
         };
-        let next = light_known(
+        s = light_known(
             clearance,
             opcode,
             word,
@@ -320,7 +207,9 @@ pub(crate) fn light_stretch(
             marks,
             register_marks,
         );
-        s = next;
-        made += 1;
+    }
+    Made {
+        lane: s,
+        made: limit,
     }
 }

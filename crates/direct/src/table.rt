@@ -8,15 +8,13 @@ ghost use Rattle.direct.specs.Table.{table_of, noted_at_first, noted_at_last, no
 use control::{Address, BusTransfer};
 use isa::MEMORY_WORDS;
 
+#[tactic(auto, using(crate::proofs::Tables::table_turn, crate::proofs::Tables::table_end))]
 pub(crate) fn table_of(items: &[u8]) -> [u8; MEMORY_WORDS]
     ensures { result ≡ table_of items.now }
 {
     let mut table = [0u8; MEMORY_WORDS];
-    let mut i = 0;
-    while i < items.len() {
-        let a = items[i] as usize;
-        table[a] = 1;
-        i += 1;
+    for a in items {
+        table[*a as usize] = 1;
     }
     table
 }
@@ -25,14 +23,12 @@ pub(crate) fn table_of(items: &[u8]) -> [u8; MEMORY_WORDS]
 pub(crate) fn first_table(items: &[Address], n: usize) -> [u8; MEMORY_WORDS]
     ensures { result ≡ table_of (take n items.now) }
 {
-    if n < items.len() {
-        return table_of(&items[..n]);
-    }
-    table_of(items)
+    table_of(&items[..n.min(items.len())])
 }
 
 // The address `a` is added, once; as many as memory has words are all there are. The table is set before that is tested,
 // so that the compiler does not test it where the table has the address, as it mostly does.
+#[tactic(auto, unfolding(crate::specs::Table::note_seen))]
 fn note_seen(
     a: Address,
     items: &mut [Address; MEMORY_WORDS],
@@ -56,7 +52,7 @@ fn note_seen(
 
 // `touch` of the trace, with a table in place of a search.
 pub(crate) fn touch_seen(
-    bus: BusTransfer,
+    bus: Option<BusTransfer>,
     items: &mut [Address; MEMORY_WORDS],
     n: usize,
     seen: &mut [u8; MEMORY_WORDS],
@@ -65,8 +61,7 @@ pub(crate) fn touch_seen(
     ensures { noted_at_last result items seen ≡ touch_seen bus (noted_at_first n items seen) }
 {
     match bus {
-        BusTransfer::Idle => n,
-        BusTransfer::Read { .. } => n,
-        BusTransfer::Write { address, value: _ } => note_seen(address, items, n, seen),
+        Some(BusTransfer::Write { address, .. }) => note_seen(address, items, n, seen),
+        _ => n,
     }
 }

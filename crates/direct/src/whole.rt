@@ -4,40 +4,40 @@ ghost use Rattle.direct.specs.Work.{fault_by, state_by};
 ghost use Rattle.direct.specs.Light.{taken_by};
 ghost use Rattle.direct.specs.Whole.{held_at_first, held_at_last, wholly_of, whole_on};
 
-use crate::work::{Work, count_whole, counted, read_operands, work_of};
+use crate::work::{Work, count_whole, read_operands, work_of};
 use control::{
     Address, BusTransfer, Control, Counters, Fault, RegisterWrite, State, last_address, last_bus,
     last_sent, last_value,
 };
-use isa::{Decoded, Instruction, MEMORY_WORDS, REGISTER_COUNT};
+use isa::{Instruction, MEMORY_WORDS, Opcode, REGISTER_COUNT};
 use plan::{FETCH_TICKS, execute_tick_count};
 use trace::{COLUMNS_LENGTH, Ring, TRACE_LIMIT, push_lines, set_register, set_word, touch};
 
-fn fault_by(decoded: Decoded, word: u16, address: u8, fault: Fault) -> Fault
+fn fault_by(decoded: Option<Opcode>, word: u16, address: u8, fault: Option<Fault>) -> Option<Fault>
     ensures { result ≡ fault_by decoded word address fault }
 {
     match decoded {
-        Decoded::Known(_) => fault,
-        Decoded::Unknown => Fault::UnknownInstruction { word, address },
+        Some(_) => fault,
+        None => Some(Fault::UnknownInstruction { word, address }),
     }
 }
 
 // The state after the word at an address.
-fn state_by(decoded: Decoded, word: u16, address: u8, old: Fault, work: Work) -> State
+fn state_by(
+    decoded: Option<Opcode>,
+    word: u16,
+    address: u8,
+    old: Option<Fault>,
+    work: Work,
+) -> State
     ensures { result ≡ state_by decoded word address old work }
 {
-    let bus = work.bus;
-    let last_alu = work.alu;
     let ticks = execute_tick_count(decoded);
-    let mar = last_address(bus, address);
-    let mdr = last_value(bus, word);
-    let last_transfer = last_bus(bus, address, word);
-    let fault = fault_by(decoded, word, address, old);
     let control = Control {
         pc: work.pc,
         ir: word,
-        mar,
-        mdr,
+        mar: last_address(work.bus, address),
+        mdr: last_value(work.bus, word),
         instruction_address: address,
         tick: 0,
         execute_ticks: ticks,
@@ -45,9 +45,9 @@ fn state_by(decoded: Decoded, word: u16, address: u8, old: Fault, work: Work) ->
     };
     State {
         control,
-        fault,
-        last_transfer,
-        last_alu,
+        fault: fault_by(decoded, word, address, old),
+        last_transfer: last_bus(work.bus, address, word),
+        last_alu: work.alu,
     }
 }
 
@@ -73,8 +73,8 @@ pub struct Small {
 pub struct Whole {
     pub small: Small,
     pub ticks: u8,
-    pub bus: BusTransfer,
-    pub write: RegisterWrite,
+    pub bus: Option<BusTransfer>,
+    pub write: Option<RegisterWrite>,
     pub faulted: bool,
 }
 
@@ -92,40 +92,38 @@ pub fn whole_instruction(
     ensures { wholly_of result (held_at_last result.small memory registers touched columns numbers lengths)
         ≡ whole_on word (held_at_first from memory registers touched columns numbers lengths) }
 {
-    let old = from.state;
-    let address = old.control.pc;
-    let fault = old.fault;
-    let alu = old.last_alu;
+    let address = from.state.control.pc;
     let decoded = Instruction::from_word(word).opcode();
     let taken = taken_by(word, registers);
     let ticks = FETCH_TICKS + execute_tick_count(decoded);
     let o = read_operands(word, memory, registers);
-    let next = std::num::wrapping_add_u8(address, 1);
-    let work = work_of(decoded, word, next, alu, o);
+    let work = work_of(
+        decoded,
+        word,
+        address.wrapping_add(1),
+        from.state.last_alu,
+        o,
+    );
     let write = work.write;
     let bus = work.bus;
     set_register(write, registers);
     set_word(bus, memory);
-    let n = touch(bus, touched, from.touched_len);
+    let touched_len = touch(bus, touched, from.touched_len);
     let before = from.counters.micro_operations;
-    let ring = from.ring;
-    let q = push_lines(
-        ring, ticks, before, address, taken, word, columns, numbers, lengths,
+    let ring = push_lines(
+        from.ring, ticks, before, address, taken, word, columns, numbers, lengths,
     );
-    let counters = count_whole(decoded, bus, from.counters);
-    let state = state_by(decoded, word, address, fault, work);
     let small = Small {
-        state,
-        counters,
-        touched_len: n,
-        ring: q,
+        state: state_by(decoded, word, address, from.state.fault, work),
+        counters: count_whole(decoded, bus, from.counters),
+        touched_len,
+        ring,
     };
-    let sent = last_sent(bus);
     Whole {
         small,
         ticks,
-        bus: sent,
+        bus: last_sent(bus),
         write,
-        faulted: !counted(decoded),
+        faulted: !decoded.is_some(),
     }
 }

@@ -1,5 +1,6 @@
 -- The laws of the disassembly: no text is over 32 bytes, none of an instruction over 18, and a word's text once its opcode is known.
 -- Assumes nothing.
+use Rattle.std.specs.Prelude.{None, Option, Some}
 use Prim.Native.Nat.{ℕ, ◌+◌, ◌-◌, ◌≤◌}
 use mathlib.Core.Path.{◌≡◌, refl, sym, ap, ◌∙◌}
 use native.Mathlib.Omega.{arith}
@@ -10,10 +11,8 @@ use lib.ListN.{length, drop, replicate, length-append, length-replicate, replica
 use lib.Seq.{take-append_seam, drop-append-add, drop_at}
 use Rattle.isa.specs.declared.opcode.Opcode.{Opcode}
 use Rattle.isa.specs.declared.opcode.Opcode.TheVariants.{LoadImmediate, LoadRegister, LoadMemory, StoreMemory, Add, Negate, ShiftRight, ShiftLeft, And, Or, Xor, Jump, Halt}
-use Rattle.isa.specs.declared.opcode.Decoded.{Decoded}
-use Rattle.isa.specs.declared.opcode.Decoded.TheVariants.{Known, Unknown}
-use Rattle.isa.specs.declared.text.Text.{Text}
-use Rattle.isa.specs.Text.{ascii, text, padded}
+use Rattle.isa.specs.Text.{fixed_text, Text}
+use Rattle.isa.specs.Text.{fixed_text, ascii, text, padded}
 use Rattle.isa.specs.Word.{decode_word}
 use Rattle.isa.specs.Nibbles.{unused_of, unused}
 use Rattle.isa.specs.Format.{hex4, fill, fill_byte}
@@ -32,7 +31,7 @@ ended-short : (s : List ℕ) → length s ≤ 11 → (loose : Bool) → length (
 ended-short s h loose = let k : length (ending loose) ≤ 7 = ending-short loose in rw length-append (omega arith)
 
 -- an instruction's text has at most 18 bytes, the word behind it among them
-instruction-short : (o : Opcode) (w : ℕ) → length (ascii (template (Known o)) ++ ending (not (eqb (unused_of o w) 0))) ≤ 18
+instruction-short : (o : Opcode) (w : ℕ) → length (ascii (template (Some o)) ++ ending (not (eqb (unused_of o w) 0))) ≤ 18
 unfolding template
 instruction-short LoadImmediate w = lit≤ tt
 instruction-short LoadRegister w = ended-short (ascii "LOAD Ry, Rz") (lit≤ tt) (not (eqb (unused_of LoadRegister w) 0))
@@ -49,13 +48,13 @@ instruction-short Jump w = lit≤ tt
 instruction-short Halt w = ended-short (ascii "HALT") (lit≤ tt) (not (eqb (unused_of Halt w) 0))
 
 -- a template, and the word behind it where the instruction has a digit too many
-abbrev pub whole : Decoded → ℕ → List ℕ
+abbrev pub whole : Option Opcode → ℕ → List ℕ
 whole d w = ascii (template d) ++ ending (not (eqb (unused d w) 0))
 
-whole_short : (d : Decoded) (w : ℕ) → length (whole d w) ≤ 32
+whole_short : (d : Option Opcode) (w : ℕ) → length (whole d w) ≤ 32
 unfolding template
-whole_short (Known o) w = let s : length (whole (Known o) w) ≤ 18 = instruction-short o w in omega arith
-whole_short Unknown w = lit≤ tt
+whole_short (Some o) w = let s : length (whole (Some o) w) ≤ 18 = instruction-short o w in omega arith
+whole_short None w = lit≤ tt
 
 -- no text is over 32 bytes
 pub disassembly_short : (w : ℕ) → length (disassemble_text w) ≤ 32
@@ -63,7 +62,7 @@ unfolding disassemble_text
 disassembly_short w = rw length-fill (whole_short (decode_word w) w)
 
 -- and none of an instruction over 18
-pub known-short : (w : ℕ) (o : Opcode) → decode_word w ≡ Known o → length (disassemble_text w) ≤ 18
+pub known-short : (w : ℕ) (o : Opcode) → decode_word w ≡ Some o → length (disassemble_text w) ≤ 18
 unfolding disassemble_text
 known-short w o e = rw (length-fill, e) (instruction-short o w)
 
@@ -71,20 +70,20 @@ pub disassembly_padded : (w : ℕ) → length (padded 32 (disassemble_text w)) �
 disassembly_padded w = length-padded 32 (disassemble_text w) (disassembly_short w)
 
 -- the text of a word, once its digits and what it decodes to are known
-pub texted : (w : ℕ) (d : Decoded) {digits : List ℕ} {r : Text} → digits ≡ hex4 w → decode_word w ≡ d → r ≡ text (map (fill_byte digits) (whole d w)) → r ≡ text (disassemble_text w)
+pub texted : (w : ℕ) (d : Option Opcode) {digits : List ℕ} {r : Text} → digits ≡ hex4 w → decode_word w ≡ d → r ≡ text (map (fill_byte digits) (whole d w)) → r ≡ text (disassemble_text w)
 unfolding disassemble_text fill
 texted w d e f g = g ∙ rw (e, f)
 
 -- a text's field, from what is written of its struct
 pub fielded : (w : ℕ) (d : List ℕ) {t : Text} {r : ℕ} {o : List ℕ} → t ≡ text (disassemble_text w) → (r ≡ t.len) × (o ≡ written d 0 t.bytes)
     → (r ≡ length (disassemble_text w)) × (o ≡ written d 0 (padded 32 (disassemble_text w)))
-unfolding text
+unfolding fixed_text
 fielded w d e f = (f.0 ∙ ap (λ (u : Text). u.len) e, f.1 ∙ ap (λ (u : Text). written d 0 u.bytes) e)
 
 -- a field that was filled whole
 pub whole_field : (w : ℕ) (d : List ℕ) {r : ℕ} {o : List ℕ} → length d ≡ 32 → (r ≡ length (disassemble_text w)) × (o ≡ written d 0 (padded 32 (disassemble_text w)))
     → record { bytes = o; len = r } ≡ text (disassemble_text w)
-unfolding text over
+unfolding fixed_text over
 whole_field w d {r} {o} l f =
     let n : length (padded 32 (disassemble_text w)) ≡ 32 = disassembly_padded w in
     let z : drop (0 + length (padded 32 (disassemble_text w))) d ≡ [] = drop_of_length-le d {i = 0 + length (padded 32 (disassemble_text w))} (omega arith) in
@@ -134,14 +133,14 @@ module _ (t : Text) (digits d : List ℕ) (loose : Bool) where
 -- the field of a word whose opcode is known, from what is written of its text's struct
 module _ (w : ℕ) (op : Opcode) (d : List ℕ) where
   abbrev base : List ℕ
-  base = ascii (template (Known op))
+  base = ascii (template (Some op))
 
   abbrev loosely : Bool
   loosely = not (eqb (unused_of op w) 0)
 
   behind : {t : Text} {r : ℕ} {o : List ℕ} → length base + 7 ≤ 32 → t ≡ text (fill w base) → (r ≡ t.len + length (ending loosely)) × (o ≡ written d 0 (written t.bytes t.len (fill w (ending loosely))))
       → (r ≡ length (fill w (base ++ ending loosely))) × (o ≡ written d 0 (padded 32 (fill w (base ++ ending loosely))))
-  unfolding text fill
+  unfolding fixed_text fill
   behind {t} h x f =
       let l : t.len ≡ length (fill w base) = ap (λ (v : Text). v.len) x in
       let v : length (fill w base) ≡ length base = length-fill w base in
@@ -152,7 +151,7 @@ module _ (w : ℕ) (op : Opcode) (d : List ℕ) where
       ap (λ (j : Text). written j.bytes j.len (fill w (ending loosely))) x ∙ padded-more 32 (fill w base) (fill w (ending loosely)) (omega (arith, h, v, m, c)) in
       (f.0 ∙ omega (arith, l, v, z), f.1 ∙ ap (written d 0) (p ∙ ap (padded 32) (sym (map-append (fill_byte (hex4 w)) base (ending loosely)))))
 
-  pub ended : {digits : List ℕ} {n : ℕ} {t : Text} {r : ℕ} {o : List ℕ} → digits ≡ hex4 w → decode_word w ≡ Known op → length base + 7 ≤ 32
+  pub ended : {digits : List ℕ} {n : ℕ} {t : Text} {r : ℕ} {o : List ℕ} → digits ≡ hex4 w → decode_word w ≡ Some op → length base + 7 ≤ 32
       → n ≡ unused_of op w → t ≡ text (map (fill_byte digits) base) → Ended t digits d (not (eqb n 0)) r o
       → (r ≡ length (disassemble_text w)) × (o ≡ written d 0 (padded 32 (disassemble_text w)))
   unfolding fill disassemble_text

@@ -1,5 +1,6 @@
 -- Two words have equal disassembly exactly when they are equal (02, Change 1): a word can be read off its text, and off the text's field of 32 bytes.
 -- Assumes nothing.
+use Rattle.std.specs.Prelude.{None, Option, Some}
 use Prim.Native.Nat.{ℕ, ◌+◌, ◌*◌, ◌-◌, ◌<◌}
 use Prim.Native.Char.{Char, code}
 use native.Mathlib.Omega.{arith}
@@ -13,8 +14,6 @@ use lib.ListN.{length, get_or}
 use Rattle.isa.specs.declared.opcode.Opcode.{Opcode}
 use Rattle.isa.specs.declared.opcode.Opcode.TheVariants.{LoadImmediate, LoadRegister, LoadMemory, StoreMemory, Add, Negate}
 use Rattle.isa.specs.declared.opcode.Opcode.TheVariants.{ShiftRight, ShiftLeft, And, Or, Xor, Jump, Halt}
-use Rattle.isa.specs.declared.opcode.Decoded.{Decoded}
-use Rattle.isa.specs.declared.opcode.Decoded.TheVariants.{Known, Unknown}
 use Rattle.isa.specs.Sizes.{text_width}
 use Rattle.isa.specs.Text.{ascii, padded}
 use Rattle.isa.specs.Opcode.{nibble_of}
@@ -104,17 +103,17 @@ module _ (w : ℕ) (h : w < 65536) where
   rz = value_read (digit_z w) (omega arith)
 
   -- from a text with the word behind it, and without, where the unused digits are 0
-  abbrev Read : Decoded → Bool → Type 0
+  abbrev Read : Option Opcode → Bool → Type 0
   Read d loose = word_in (bytes_of (fill w (ascii (template d) ++ ending loose))) ≡ w
 
-  by_ending : (o : Opcode) → Read (Known o) true → (unused_of o w ≡ 0 → Read (Known o) false) → Read (Known o) (not (eqb (unused_of o w) 0))
+  by_ending : (o : Opcode) → Read (Some o) true → (unused_of o w ≡ 0 → Read (Some o) false) → Read (Some o) (not (eqb (unused_of o w) 0))
   by_ending o whole short = go (eqb (unused_of o w) 0) refl
     where
-      go : (z : Bool) → eqb (unused_of o w) 0 ≡ z → Read (Known o) (not z)
+      go : (z : Bool) → eqb (unused_of o w) 0 ≡ z → Read (Some o) (not z)
       go true q = short (eqb-true (unused_of o w) 0 q)
       go false q = whole
 
-  with_opcode : (o : Opcode) → digit_w w ≡ nibble_of o → Read (Known o) (not (eqb (unused_of o w) 0))
+  with_opcode : (o : Opcode) → digit_w w ≡ nibble_of o → Read (Some o) (not (eqb (unused_of o w) 0))
   unfolding word_in fill template
   with_opcode LoadImmediate n = rw (no_bracket (digit_y w) (omega arith), no_r (digit_y w) (omega arith), rx, ry, rz) (omega (arith, by_digits w h))
   with_opcode LoadRegister n = by_ending LoadRegister (rw (r0, rx, ry, rz) (by_digits w h)) (λ q. rw (ry, rz) (omega (arith, by_digits w h)))
@@ -135,9 +134,9 @@ module _ (w : ℕ) (h : w < 65536) where
   unfolding word_in fill template disassemble_text
   word_read = go (decode_word w) refl
     where
-      go : (d : Decoded) → decode_word w ≡ d → Read d (not (eqb (unused d w) 0))
-      go (Known o) e = with_opcode o (opcode_digit w o e)
-      go Unknown e = rw (r0, rx, ry, rz) (by_digits w h)
+      go : (d : Option Opcode) → decode_word w ≡ d → Read d (not (eqb (unused d w) 0))
+      go (Some o) e = with_opcode o (opcode_digit w o e)
+      go None e = rw (r0, rx, ry, rz) (by_digits w h)
 
 -- ---- the theorem
 

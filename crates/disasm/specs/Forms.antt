@@ -1,7 +1,7 @@
 -- The code's own form of a field with an ending, which a reader need not believe: `proofs/Texts.antt` joins it to `Disassembly`.
 -- Assumes nothing.
 use Rattle.std.specs.Prelude.{ℕ, Bool, List, map}
-use Rattle.isa.specs.declared.text.Text.{Text}
+use Rattle.isa.specs.Text.{Text}
 use Rattle.isa.specs.Format.{fill_byte}
 use Rattle.encoding.specs.Bytes.{written}
 use Rattle.disasm.specs.Disassembly.{ending}

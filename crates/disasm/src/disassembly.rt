@@ -10,7 +10,7 @@ ghost use Rattle.disasm.specs.Disassembly.{ending, disassemble_text};
 ghost use Rattle.disasm.specs.Forms.{ended_bytes};
 
 use encoding::{inside, put_bytes};
-use isa::{Decoded, Instruction, Opcode, TEXT_WIDTH, Text, digits_of};
+use isa::{Instruction, Opcode, TEXT_WIDTH, Text, digits_of};
 
 fn load_immediate_text(digits: [u8; 4]) -> Text
     ensures { result ≡ text (map (fill_byte digits) (ascii "LOAD Rx, yz")) }
@@ -180,7 +180,7 @@ fn put_disassembly(field: &mut [u8], word: u16, digits: [u8; 4]) -> u8
     requires { digits ≡ hex4 word }
     ensures { (result ≡ length (disassemble_text word)) × (field.new ≡ written field.old 0 (padded 32 (disassemble_text word))) }
 {
-    let Decoded::Known(opcode) = Instruction::from_word(word).opcode() else {
+    let Some(opcode) = Instruction::from_word(word).opcode() else {
         return put_field(field, unknown_text(digits));
     };
     let loose = opcode.unused(word) != 0;
@@ -216,8 +216,7 @@ pub fn disassemble_into(out: &mut [u8], at: usize, word: u16) -> u8
     ensures { (result ≡ length (disassemble_text word)) × (out.new ≡ written out.old at (padded 32 (disassemble_text word))) }
 {
     if !inside(out.len(), at, TEXT_WIDTH) {
-        let t = disassemble(word);
-        return t.len;
+        return disassemble(word).len;
     }
     let end = at + TEXT_WIDTH;
     put_disassembly(&mut out[at..end], word, digits_of(word))

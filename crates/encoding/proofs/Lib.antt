@@ -3,3 +3,4 @@ pub mod Written
 pub mod Numbers
 pub mod Loops
 pub mod Members
+pub mod Refusals

@@ -30,10 +30,10 @@ put_step d at i m h =
 
 -- written from the low byte up
 pub put_turn : (d : List ℕ) (at w i m : ℕ) → i < w → at + w ≤ length d
-    → over (set d (at + w - (i + 1)) (m % 256)) at (big_endian (w - (i + 1)) (m / 256)) ≡ over d at (big_endian (w - i) m)
+    → over (set d (at + w - 1 - i) (m % 256)) at (big_endian (w - (i + 1)) (m / 256)) ≡ over d at (big_endian (w - i) m)
 put_turn d at w i m p h =
     let j : ℕ = w - (i + 1) in
-    let e : at + w - (i + 1) ≡ at + j = omega arith in
+    let e : at + w - 1 - i ≡ at + j = omega arith in
     let f : suc j ≡ w - i = omega arith in
     rw e (put_step d at j m (omega arith) ∙ ap (λ (k : ℕ). over d at (big_endian k m)) f)
 

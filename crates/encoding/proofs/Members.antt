@@ -1,21 +1,18 @@
--- Laws of `member`: a search from a place on.
+-- `member` is the library's test of each element.
 -- Assumes nothing.
-use Prim.Native.Nat.{ℕ, ◌<◌, ◌+◌}
-use native.Mathlib.Numerals.{add-one}
-use mathlib.Core.Path.{◌≡◌}
-use mathlib.Core.Bool.{true, false, cond}
-use mathlib.Core.List.{List}
+use Prim.Native.Nat.{ℕ}
+use mathlib.Core.Path.{◌≡◌, refl}
+use mathlib.Core.Bool.{Bool, true, false, cond, ◌||◌}
+use mathlib.Core.List.{List, [], ◌∷◌}
 use lib.Dec.{eqb}
-use lib.ListN.{length, get_or, drop}
-use lib.Seq.{drop-cons, drop-length}
+use Rattle.std.specs.List.{list_any}
 use Rattle.encoding.specs.Bytes.{member}
 
--- the search from i on looks at the i-th first
-pub mem_drop : (a : ℕ) (l : List ℕ) (i : ℕ) → i < length l → member a (drop i l) ≡ cond (eqb (get_or l i 0) a) true (member a (drop (i + 1) l))
-unfolding member
-mem_drop a l i h = rw (add-one, drop-cons l i 0)
+by_first : (v r : Bool) → (v || r) ≡ cond v true r
+by_first true r = refl
+by_first false r = refl
 
--- nothing is left at the end
-pub mem_end : (a : ℕ) (l : List ℕ) (i : ℕ) → i ≡ length l → member a (drop i l) ≡ false
+pub any-member : (a : ℕ) (l : List ℕ) → list_any (λ (b : ℕ). eqb b a) l ≡ member a l
 unfolding member
-mem_end a l i e = rw (e, drop-length)
+any-member a [] = refl
+any-member a (b ∷ l) = rw (any-member a l) (by_first (eqb b a) (member a l))

@@ -61,6 +61,11 @@ written_cut d at bs h = rw (lt-leb (at + length bs) (length d) h)
 pub written_from : (d : List ℕ) (at : ℕ) (bs : List ℕ) → at + length bs ≤ length d → drop at (written d at bs) ≡ bs ++ drop (at + length bs) d
 written_from d at bs h = rw (written-fits d at bs h) (over_from d at bs (omega arith))
 
+-- a part of a list that is made equal to bytes of its length
+pub part_over : (d : List ℕ) (at : ℕ) (bs : List ℕ) {p : List ℕ} → at + length bs ≤ length d → p ≡ bs → put_mid at (at + length bs - at) d p ≡ over d at bs
+unfolding over
+part_over d at bs h e = rw (e, Post-is at (at + length bs) d (omega arith))
+
 -- bytes written into a part of a list that has just their length
 pub part_written : (d : List ℕ) (at e : ℕ) (bs : List ℕ) {p : List ℕ} → at + length bs ≡ e → e ≤ length d → p ≡ written (mid_of at (e - at) d) 0 bs
     → put_mid at (e - at) d p ≡ written d at bs

@@ -2,38 +2,28 @@
 // caller has to test first: what does not fit whole is not written, what is not wholly there is not read.
 #![tactic(auto)]
 
+mod refusal;
+
 ghost use Rattle.std.specs.Prelude.{◌≡◌, ◌+◌, ◌*◌, ◌^◌, ◌≤◌, ◌<◌, leb, length, drop};
 ghost use Rattle.encoding.specs.Bytes.{over, big_endian, big_endians, number, numbers, written, read_number, read_words, member};
+
+pub use refusal::Refusal;
 
 // Whether `n` bytes at index `at` lie wholly in `len` bytes. It subtracts, since `at + n` may be too large for
 // a usize.
 pub fn inside(len: usize, at: usize, n: usize) -> bool
     ensures { result ≡ leb (at + n) len }
 {
-    if len < at {
-        return false;
-    }
-    n <= len - at
+    len.checked_sub(at).is_some_and(|room| n <= room)
 }
 
 // Writes `bytes` from index `at` on, where they fit; all else of `out` is kept.
+#[tactic(auto, unfolding(crate::specs::Bytes::written))]
 pub fn put_bytes(out: &mut [u8], at: usize, bytes: &[u8])
     ensures { out.new ≡ written out.old at bytes.now }
 {
     if inside(out.len(), at, bytes.len()) {
-        copy(out, at, bytes);
-    }
-}
-
-// The same, where it is known that they fit.
-fn copy(out: &mut [u8], at: usize, bytes: &[u8])
-    requires { at + length bytes.now ≤ length out.old }
-    ensures { out.new ≡ over out.old at bytes.now }
-{
-    let mut i = 0;
-    while i < bytes.len() {
-        out[at + i] = bytes[i];
-        i += 1;
+        out[at..at + bytes.len()].copy_from_slice(bytes);
     }
 }
 
@@ -52,17 +42,16 @@ fn put_digits(out: &mut [u8], at: usize, width: usize, n: u64)
     requires { at + width ≤ length out.old }
     ensures { out.new ≡ over out.old at (big_endian width n) }
 {
-    let mut i = 0;
     let mut left = n;
-    while i < width {
-        i += 1;
-        out[at + width - i] = (left % 256) as u8;
-        left = left / 256;
+    for i in 0..width {
+        out[at + width - 1 - i] = (left % 256) as u8;
+        left /= 256;
     }
 }
 
 // The number in the `width` bytes at index `at`; 0 where they are not all there, and for a width over 8, since
 // the number may be too large for a u64.
+#[tactic(auto, unfolding(crate::specs::Bytes::read_number))]
 pub fn get_number(bytes: &[u8], at: usize, width: usize) -> u64
     ensures { result ≡ read_number bytes.now at width }
 {
@@ -81,10 +70,8 @@ fn get_digits(bytes: &[u8], at: usize, width: usize) -> u64
     ensures { (result ≡ number width (drop at bytes.now)) × (result < 256 ^ width) }
 {
     let mut read: u64 = 0;
-    let mut i = 0;
-    while i < width {
-        read = read * 256 + bytes[at + i] as u64;
-        i += 1;
+    for byte in &bytes[at..at + width] {
+        read = read * 256 + u64::from(*byte);
     }
     read
 }
@@ -103,14 +90,13 @@ fn put_each(out: &mut [u8], at: usize, words: &[u16])
     requires { at + 2 * length words.now ≤ length out.old }
     ensures { out.new ≡ over out.old at (big_endians 2 words.now) }
 {
-    let mut i = 0;
-    while i < words.len() {
-        put_digits(out, at + 2 * i, 2, words[i] as u64);
-        i += 1;
+    for (i, word) in words.iter().enumerate() {
+        put_digits(out, at + 2 * i, 2, u64::from(*word));
     }
 }
 
 // Fills `out` with the words of two bytes from index `at` on; where they are not all there, `out` is kept.
+#[tactic(auto, unfolding(crate::specs::Bytes::read_words))]
 pub fn get_words(bytes: &[u8], at: usize, out: &mut [u16])
     ensures { out.new ≡ read_words bytes.now at out.old }
 {
@@ -125,12 +111,8 @@ fn get_each(bytes: &[u8], at: usize, out: &mut [u16])
     requires { at + 2 * length out.old ≤ length bytes.now }
     ensures { out.new ≡ numbers 2 (length out.old) (drop at bytes.now) }
 {
-    let mut i = 0;
-    while i < out.len() {
-        let high = bytes[at + 2 * i] as u16;
-        let low = bytes[at + 2 * i + 1] as u16;
-        out[i] = high * 256 + low;
-        i += 1;
+    for i in 0..out.len() {
+        out[i] = u16::from_be_bytes([bytes[at + 2 * i], bytes[at + 2 * i + 1]]);
     }
 }
 
@@ -138,12 +120,5 @@ fn get_each(bytes: &[u8], at: usize, out: &mut [u16])
 pub fn contains(s: &[u8], b: u8) -> bool
     ensures { result ≡ member b s.now }
 {
-    let mut i = 0;
-    while i < s.len() {
-        if s[i] == b {
-            return true;
-        }
-        i += 1;
-    }
-    false
+    s.contains(&b)
 }

@@ -2,20 +2,20 @@
 ghost use Rattle.std.specs.Prelude.{◌≡◌, ◌-◌, eqb};
 ghost use Rattle.control.specs.Count.{over_counted};
 ghost use Rattle.marks.specs.Owners.{hidden_from};
-ghost use Rattle.guard.specs.Stops.{reached, halt_stop, verdict_if, run_code, refusal_in, number_in, address_in};
+ghost use Rattle.guard.specs.Stops.{reached, halt_stop, verdict_if, run_code, number_in, address_in};
 ghost use Rattle.guard.specs.Stops.{stop_number, halted_stop, is_jump, hidden_by, hidden_jump, guard_if};
-ghost use Rattle.guard.specs.Forms.{run_verdict_of, verdict_of, passes};
+ghost use Rattle.guard.specs.Forms.{verdict_of, passes};
 
 use control::{Counters, Fault, State, is_over_counted};
-use encoding::contains;
-use isa::{Decoded, Instruction, Opcode, REGISTER_COUNT};
+use encoding::{Refusal, contains};
+use isa::{Instruction, Opcode, REGISTER_COUNT};
 use marks::is_hidden;
 
 // A number of instructions begun.
 #[derive(Clone, Copy)]
 pub struct Begun(pub u64);
 
-// Why the machine stopped running. `Refused` has the refusal's number, and stands for no stop.
+// Why the machine stopped running.
 #[derive(Clone, Copy)]
 pub enum RunStop {
     Halted,
@@ -23,27 +23,12 @@ pub enum RunStop {
     Fault,
     Budget,
     AlreadyHalted,
-    Refused(u8),
 }
 
 impl RunStop {
-    // The number of the refusal, 0 where there is none.
-    pub fn refusal(self) -> u8
-        ensures { result ≡ refusal_in (run_code self) }
-    {
-        match self {
-            RunStop::Halted => 0,
-            RunStop::Breakpoint(_) => 0,
-            RunStop::Fault => 0,
-            RunStop::Budget => 0,
-            RunStop::AlreadyHalted => 0,
-            RunStop::Refused(number) => number,
-        }
-    }
-
-    // The number of the stop, 0 beside a refusal.
+    // Its number in answers: that of a guarded run's stop, and 6 for a machine that was halted at the call.
     pub fn number(self) -> u8
-        ensures { result ≡ number_in (run_code self) }
+        ensures { result ≡ number_in (run_code (Ok self)) }
     {
         match self {
             RunStop::Halted => 0,
@@ -51,21 +36,16 @@ impl RunStop {
             RunStop::Fault => 2,
             RunStop::Budget => 3,
             RunStop::AlreadyHalted => 6,
-            RunStop::Refused(_) => 0,
         }
     }
 
     // The breakpoint that was met, 0 for any other stop.
     pub fn address(self) -> u8
-        ensures { result ≡ address_in (run_code self) }
+        ensures { result ≡ address_in (run_code (Ok self)) }
     {
         match self {
-            RunStop::Halted => 0,
             RunStop::Breakpoint(address) => address,
-            RunStop::Fault => 0,
-            RunStop::Budget => 0,
-            RunStop::AlreadyHalted => 0,
-            RunStop::Refused(_) => 0,
+            _ => 0,
         }
     }
 }
@@ -80,63 +60,51 @@ fn at_break(breakpoints: &[u8], begun: Begun, pc: u8) -> bool
     contains(breakpoints, pc)
 }
 
-fn halt_stop(fault: Fault) -> RunStop
+fn halt_stop(fault: Option<Fault>) -> RunStop
     ensures { result ≡ halt_stop fault }
 {
     match fault {
-        Fault::Healthy => RunStop::Halted,
-        Fault::UnknownInstruction { .. } => RunStop::Fault,
-        Fault::StepBudgetExhausted { .. } => RunStop::Fault,
+        None => RunStop::Halted,
+        Some(_) => RunStop::Fault,
     }
 }
 
-// Whether a run begins the next instruction, or why not.
-#[derive(Drop)]
-pub enum RunVerdict {
-    Go,
-    Stop(RunStop),
-}
-
-// The four tests before an instruction.
+// The four tests before an instruction of a run: why it does not begin, if one of them says so.
 pub fn run_verdict(
     state: State,
     counters: Counters,
     breakpoints: &[u8],
     begun: Begun,
     limit: Begun,
-) -> RunVerdict
-    ensures { run_verdict_of result ≡ verdict_if state.control.halted (reached breakpoints.now begun.0 state.control.pc)
+) -> Option<Result<RunStop, Refusal>>
+    ensures { verdict_of result ≡ verdict_if state.control.halted (reached breakpoints.now begun.0 state.control.pc)
         (eqb (limit.0 - begun.0) 0) (over_counted counters) state }
 {
     if state.control.halted {
-        let fault = state.fault;
-        let stop = halt_stop(fault);
-        return RunVerdict::Stop(stop);
+        return Some(Ok(halt_stop(state.fault)));
     }
     let pc = state.control.pc;
-    let broken = at_break(breakpoints, begun, pc);
-    if broken {
-        return RunVerdict::Stop(RunStop::Breakpoint(pc));
+    if at_break(breakpoints, begun, pc) {
+        return Some(Ok(RunStop::Breakpoint(pc)));
     }
     if limit.0 <= begun.0 {
-        return RunVerdict::Stop(RunStop::Budget);
+        return Some(Ok(RunStop::Budget));
     }
-    let over = is_over_counted(counters);
-    if over {
-        return RunVerdict::Stop(RunStop::Refused(9));
+    if is_over_counted(counters) {
+        return Some(Err(Refusal::FullCounter));
     }
-    RunVerdict::Go
+    None
 }
 
-// Why a guarded run stopped.
+// Why a guarded run stopped, by the number that a report has.
 #[derive(Clone, Copy)]
 pub enum GuardedStop {
-    Halted,
-    Breakpoint,
-    Fault,
-    Budget,
-    HiddenWord,
-    HiddenJump,
+    Halted = 0,
+    Breakpoint = 1,
+    Fault = 2,
+    Budget = 3,
+    HiddenWord = 4,
+    HiddenJump = 5,
 }
 
 impl GuardedStop {
@@ -144,91 +112,57 @@ impl GuardedStop {
     pub fn number(self) -> u8
         ensures { result ≡ stop_number self }
     {
-        match self {
-            GuardedStop::Halted => 0,
-            GuardedStop::Breakpoint => 1,
-            GuardedStop::Fault => 2,
-            GuardedStop::Budget => 3,
-            GuardedStop::HiddenWord => 4,
-            GuardedStop::HiddenJump => 5,
-        }
+        self as u8
     }
 }
 
-fn halted_stop(fault: Fault) -> GuardedStop
+fn halted_stop(fault: Option<Fault>) -> GuardedStop
     ensures { result ≡ halted_stop fault }
 {
     match fault {
-        Fault::Healthy => GuardedStop::Halted,
-        Fault::UnknownInstruction { .. } => GuardedStop::Fault,
-        Fault::StepBudgetExhausted { .. } => GuardedStop::Fault,
+        None => GuardedStop::Halted,
+        Some(_) => GuardedStop::Fault,
     }
 }
 
-fn is_jump(decoded: Decoded) -> bool
+fn is_jump(decoded: Option<Opcode>) -> bool
     ensures { result ≡ is_jump decoded }
 {
-    let Decoded::Known(opcode) = decoded else {
-        return false;
-    };
-    match opcode {
-        Opcode::LoadImmediate => false,
-        Opcode::LoadRegister => false,
-        Opcode::LoadMemory => false,
-        Opcode::StoreMemory => false,
-        Opcode::Add => false,
-        Opcode::Negate => false,
-        Opcode::ShiftRight => false,
-        Opcode::ShiftLeft => false,
-        Opcode::And => false,
-        Opcode::Or => false,
-        Opcode::Xor => false,
-        Opcode::Jump => true,
-        Opcode::Halt => false,
+    match decoded {
+        Some(Opcode::Jump) => true,
+        _ => false,
     }
 }
 
 // Whether an instruction is a jump that would test a hidden register; one on R0 tests none.
 pub fn hidden_by(
     clearance: u8,
-    decoded: Decoded,
+    decoded: Option<Opcode>,
     word: u16,
     registers: &[u8; REGISTER_COUNT],
 ) -> bool
     ensures { result ≡ hidden_by (hidden_from clearance) decoded word registers.now }
 {
-    let jump = is_jump(decoded);
-    if !jump {
+    if !is_jump(decoded) {
         return false;
     }
     let x = (word / 256 % 16) as usize;
     if x == 0 {
         return false;
     }
-    if is_hidden(clearance, registers[x]) {
-        return true;
-    }
-    is_hidden(clearance, registers[0])
+    is_hidden(clearance, registers[x]) || is_hidden(clearance, registers[0])
 }
 
 // The same of a word.
 fn hidden_jump(clearance: u8, word: u16, registers: &[u8; REGISTER_COUNT]) -> bool
     ensures { result ≡ hidden_jump (hidden_from clearance) word registers.now }
 {
-    let i = Instruction::from_word(word);
-    let decoded = i.opcode();
+    let decoded = Instruction::from_word(word).opcode();
     hidden_by(clearance, decoded, word, registers)
 }
 
-// Whether a guarded run begins the next instruction, or why not.
-#[derive(Drop)]
-pub enum Verdict {
-    Go,
-    Stop(GuardedStop),
-}
-
-// The five tests before an instruction: the reader's clearance, the instruction's word, that word's mark, the marks of
-// the registers.
+// The five tests before an instruction of a guarded run, and why it does not begin: the reader's clearance, the
+// instruction's word, that word's mark, the marks of the registers.
 pub fn judge(
     clearance: u8,
     state: State,
@@ -238,42 +172,33 @@ pub fn judge(
     word: u16,
     mark: u8,
     registers: &[u8; REGISTER_COUNT],
-) -> Verdict
+) -> Option<GuardedStop>
     ensures { verdict_of result ≡ guard_if state.control.halted (reached breakpoints.now begun.0 state.control.pc)
         (eqb (budget.0 - begun.0) 0) (hidden_from clearance mark) (hidden_jump (hidden_from clearance) word registers.now) state.fault }
 {
     if state.control.halted {
-        let fault = state.fault;
-        let stop = halted_stop(fault);
-        return Verdict::Stop(stop);
+        return Some(halted_stop(state.fault));
     }
-    let broken = at_break(breakpoints, begun, state.control.pc);
-    if broken {
-        return Verdict::Stop(GuardedStop::Breakpoint);
+    if at_break(breakpoints, begun, state.control.pc) {
+        return Some(GuardedStop::Breakpoint);
     }
     if budget.0 <= begun.0 {
-        return Verdict::Stop(GuardedStop::Budget);
+        return Some(GuardedStop::Budget);
     }
     if is_hidden(clearance, mark) {
-        return Verdict::Stop(GuardedStop::HiddenWord);
+        return Some(GuardedStop::HiddenWord);
     }
-    let hidden = hidden_jump(clearance, word, registers);
-    if hidden {
-        return Verdict::Stop(GuardedStop::HiddenJump);
+    if hidden_jump(clearance, word, registers) {
+        return Some(GuardedStop::HiddenJump);
     }
-    Verdict::Go
+    None
 }
 
 // What is tested before an instruction of a run and of a guarded run, but for the budget, the counters and a hidden
 // jump: whether more are asked for, the table of breakpoints at its address, its mark.
+#[tactic(auto, unfolding(crate::specs::Forms::passes))]
 pub fn may_go(clearance: u8, more: bool, break_here: u8, mark_here: u8) -> bool
     ensures { result ≡ passes (hidden_from clearance) more break_here mark_here }
 {
-    if !more {
-        return false;
-    }
-    if break_here != 0 {
-        return false;
-    }
-    !is_hidden(clearance, mark_here)
+    more && break_here == 0 && !is_hidden(clearance, mark_here)
 }

@@ -5,9 +5,12 @@ use mathlib.Core.List.{List, [], ◌∷◌, ◌++◌, append_assoc, append-nil}
 use Prim.Native.Nat.{ℕ, zero, suc, ◌+◌, ◌-◌, ◌≤◌, ◌<◌}
 use native.Mathlib.Numerals.{add-one}
 use native.Mathlib.Omega.{arith}
+use borrow.Author.Tests.{eq-eqb, ne_eqb}
+use Rattle.std.proofs.Math.Nat.{suc-ne-zero}
+use mathlib.Core.Logic.{◌⊎◌, inl, inr}
 use lib.Dec.{eqb, lit<}
-use lib.ListN.{length, take, drop, set, get_or, replicate, length-append, drop_of_length-le}
-use lib.Seq.{drop-cons, set_at, take-append_seam}
+use lib.ListN.{length, take, set, get_or, replicate, length-append}
+use lib.Seq.{set_at, take-append_seam}
 use Rattle.isa.specs.Sizes.{memory_words}
 use Rattle.isa.specs.Text.{padded}
 use Rattle.isa.proofs.Texts.{length-padded}
@@ -46,15 +49,23 @@ found_all n {array} {count} {all} f =
     let e : f.so_far ≡ all = sym (append-nil f.so_far) ∙ f.all_is in
     (f.array_is ∙ ap (padded n) e, f.count_is ∙ ap length e)
 
--- what is left at i, by whether the two differ there
-pub differ_at : (i : ℕ) (xs ys : List ℕ) → i < length xs → i < length ys → differ i (drop i xs) (drop i ys)
-    ≡ cond (eqb (get_or xs i 0) (get_or ys i 0)) (differ (i + 1) (drop (i + 1) xs) (drop (i + 1) ys)) (i ∷ differ (i + 1) (drop (i + 1) xs) (drop (i + 1) ys))
-unfolding differ
-differ_at i xs ys h k = rw (add-one, drop-cons xs i 0 h, drop-cons ys i 0 k)
+-- what is left, by whether the two differ in their first words
+module _ {i j k : ℕ} {xs ys us vs : List ℕ} {x y : ℕ} (xs_is : xs ≡ x ∷ us) (ys_is : ys ≡ y ∷ vs) (j_is : j ≡ i) (k_is : k ≡ i + 1) where
+  pub differ_same : x ≡ y → differ i xs ys ≡ differ k us vs
+  unfolding differ
+  differ_same e = rw (xs_is, ys_is, k_is, add-one, eq-eqb x y e)
 
-pub differ-done : (i : ℕ) (xs ys : List ℕ) → length xs ≤ i → differ i (drop i xs) ys ≡ []
+  pub differ_other : (x ≡ y → ⊥) → differ i xs ys ≡ j ∷ differ k us vs
+  unfolding differ
+  differ_other e = rw (xs_is, ys_is, j_is, k_is, add-one, ne_eqb x y e)
+
+-- nothing is left where one of the two ends
+pub differ_end : {A : Type 0} {P Q : A → Type 0} (i : ℕ) (xs ys : List ℕ) → ((a : A) × ((length xs ≡ 0) × P a)) ⊎ ((a : A) × ((length ys ≡ 0) × Q a)) → differ i xs ys ≡ []
 unfolding differ
-differ-done i xs ys h = rw (drop_of_length-le xs {i = i} h)
+differ_end i [] ys e = refl
+differ_end i (x ∷ xs) [] e = refl
+differ_end i (x ∷ xs) (y ∷ ys) (inl e) = absurd (suc-ne-zero (length xs) e.1.0)
+differ_end i (x ∷ xs) (y ∷ ys) (inr e) = absurd (suc-ne-zero (length ys) e.1.0)
 
 -- ---- what the array holds
 

@@ -1,4 +1,4 @@
--- `Parts` has what is read, moved and lent of bytes, `Records` the laws of a record, `Stores` those of push and of the newest record,
+-- `Parts` has what is read and lent of bytes, `Records` the laws of a record, `Stores` those of push and of the newest record,
 -- `Collects` those of the differing addresses, and `Rust` that the records are the Rust's list.
 pub mod Parts
 pub mod Records

@@ -1,41 +1,24 @@
--- What is read from bytes that are there, moved down in them, and lent of them. Assumes nothing.
+-- What is read from bytes that are there, and lent of them. Assumes nothing.
 use mathlib.Core.Path.{◌≡◌, refl, sym, ap, ◌∙◌}
 use mathlib.Core.List.{List, [], ◌∷◌, ◌++◌, append-nil}
 use Prim.Native.Nat.{ℕ, zero, suc, ◌+◌, ◌-◌, ◌*◌, ◌≤◌, ◌<◌}
-use native.Mathlib.Nat.{add_comm, zero-add}
-use native.Mathlib.Numerals.{add-one}
+use native.Mathlib.Nat.{zero-add}
 use native.Mathlib.Omega.{arith}
 use borrow.Author.Tests.{le-leb}
 use lib.Dec.{lit<}
-use lib.ListN.{length, take, drop, set, get_or, length-drop, drop_of_length-le}
-use lib.Seq.{append_snoc, drop_at, drop-cons, drop-drop, get_or-append-add, get_or-drop, get_or-take, length-take-le, set_at, take-add, take_all, take-suc, take-take}
+use lib.ListN.{length, take, drop, get_or, length-drop, drop_of_length-le}
+use lib.Seq.{drop_at, drop-drop, get_or-drop, get_or-take, length-take-le, take-add, take_all, take-take}
 use Rattle.encoding.specs.Bytes.{over, number, numbers, read_number, read_words}
 
 -- ---- read
 
-pub number-inside : (d : List ℕ) (at w : ℕ) → w ≤ 8 → at + w ≤ length d → read_number d at w ≡ number w (drop at d)
+pub number_inside : (d : List ℕ) (at w : ℕ) → w ≤ 8 → at + w ≤ length d → read_number d at w ≡ number w (drop at d)
 unfolding read_number
-number-inside d at w e h = rw (le-leb w 8 e, le-leb (at + w) (length d) h)
+number_inside d at w e h = rw (le-leb w 8 e, le-leb (at + w) (length d) h)
 
 pub words_inside : (d : List ℕ) (at : ℕ) (out : List ℕ) → at + 2 * length out ≤ length d → read_words d at out ≡ numbers 2 (length out) (drop at d)
 unfolding read_words
 words_inside d at out h = rw (le-leb (at + 2 * length out) (length d) h)
-
--- ---- moved down
-
--- a turn of the loop that moves bytes k places down
-pub move_turn : (d : List ℕ) (k i : ℕ) → i + k < length d
-    → set (take i (drop k d) ++ drop i d) i (get_or (take i (drop k d) ++ drop i d) (i + k) 0) ≡ take (i + 1) (drop k d) ++ drop (i + 1) d
-move_turn d k i h =
-    let s : List ℕ = drop k d in
-    let ls : length s ≡ length d - k = length-drop k d in
-    let lt : length (take i s) ≡ i = length-take-le i s (omega arith) in
-    let x : ℕ = get_or s i 0 in
-    let same : get_or (take i s ++ drop i d) (i + k) 0 ≡ x =
-    ap (λ (n : ℕ). get_or (take i s ++ drop i d) (n + k) 0) (sym lt) ∙ get_or-append-add (take i s) (drop i d) k 0
-    ∙ get_or-drop i d k 0 ∙ ap (λ (n : ℕ). get_or d n 0) (add_comm i k) ∙ sym (get_or-drop k d i 0) in
-    rw (same, drop-cons d i 0 (omega arith), set_at (take i s) (get_or d i 0) (drop (suc i) d) x i lt, add-one, take-suc s i 0 (omega arith))
-    (sym (append_snoc (take i s) x (drop (suc i) d)))
 
 -- ---- lent
 

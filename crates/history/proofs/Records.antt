@@ -1,10 +1,13 @@
 -- The laws of a record: its pieces lie one behind the other, its own bytes are enough to read it, and what is written is read back.
 -- Assumes nothing.
-use native.Mathlib.Omega.{arith}
+use native.Mathlib.Nat.{zero-add}
+use Rattle.isa.proofs.Truths.{both}
 use mathlib.Core.Path.{◌≡◌, refl, sym, ap, ◌∙◌}
 use mathlib.Core.Bool.{Bool, true, false, ◌&&◌}
 use mathlib.Core.List.{List, [], ◌∷◌, ◌++◌, append_assoc}
 use Prim.Native.Nat.{ℕ, ◌+◌, ◌-◌, ◌^◌, ◌≤◌, ◌<◌}
+use Rattle.std.proofs.Common.{Some}
+use Rattle.std.specs.Int.{from_bool}
 use lib.Dec.{eqb, leb, lit<, lit≤}
 use lib.ListN.{length, take, drop, get_or, length-append}
 use lib.Seq.{drop-append-add, get_or-drop}
@@ -21,7 +24,7 @@ use Rattle.control.specs.declared.control.Control.{Control}
 use Rattle.history.specs.Record.{byte_width, word_width, counter_width, padding_width}
 use Rattle.history.specs.Record.{pc_at, ir_at, registers_at, mar_at, mdr_at, instruction_address_at, tick_at, execute_ticks_at, halted_at}
 use Rattle.history.specs.Record.{fault_kind_at, fault_word_at, fault_address_at, instructions_at, micro_operations_at, memory_at, record_length}
-use Rattle.history.specs.Record.{bit, front_bytes, state_bytes, count_bytes, memory_bytes, record_bytes, control_in, fault_in, snapshot_in, is_record, found, record_in, Fits, is_good}
+use Rattle.history.specs.Record.{front_bytes, state_bytes, count_bytes, memory_bytes, record_bytes, control_in, fault_in, snapshot_in, is_record, record_in, Fits, is_good}
 use Rattle.history.specs.declared.snapshot.Snapshot.{Snapshot}
 use Rattle.history.proofs.Parts.{number_cut, numbers_cut}
 
@@ -111,20 +114,17 @@ module _ (l : List ℕ) where
 
 -- ---- what is written is read back
 
-bit_back : (b : Bool) → eqb (bit b) 1 ≡ b
+bit_back : (b : Bool) → eqb (from_bool b) 1 ≡ b
 bit_back true = refl
 bit_back false = refl
 
-bit-known : (b : Bool) → leb (bit b) 1 ≡ true
+bit-known : (b : Bool) → leb (from_bool b) 1 ≡ true
 bit-known true = refl
 bit-known false = refl
 
-bit-small : (b : Bool) → bit b < 256
+bit-small : (b : Bool) → from_bool b < 256
 bit-small true = lit< tt
 bit-small false = lit< tt
-
-zero_plus : (n : ℕ) → 0 + n ≡ n
-zero_plus n = omega arith
 
 module _ (s : Snapshot) (f : Fits s) (rest : List ℕ) where
   -- the bytes of the record and what stands behind it
@@ -161,9 +161,9 @@ module _ (s : Snapshot) (f : Fits s) (rest : List ℕ) where
       ∙ ap (λ (n : ℕ). numbers word_width n (big_endians word_width s.registers ++ behind)) (sym f.sixteen)
       ∙ numbers-big_endians word_width s.registers behind f.registers
 
-  halted_byte : number byte_width (drop halted_at bytes) ≡ bit s.control.halted
+  halted_byte : number byte_width (drop halted_at bytes) ≡ from_bool s.control.halted
   unfolding state_bytes big_endian
-  halted_byte = ap (number byte_width) (past (halted_at - mar_at)) ∙ number-big_endian byte_width (bit s.control.halted) _ (bit-small s.control.halted)
+  halted_byte = ap (number byte_width) (past (halted_at - mar_at)) ∙ number-big_endian byte_width (from_bool s.control.halted) _ (bit-small s.control.halted)
 
   control_back : control_in bytes ≡ s.control
   unfolding control_in state_bytes big_endian
@@ -181,7 +181,7 @@ module _ (s : Snapshot) (f : Fits s) (rest : List ℕ) where
 
   kind_back : number byte_width (drop fault_kind_at bytes) ≡ (fault_code s.fault).kind
   unfolding state_bytes count_bytes fault_bytes big_endian number
-  kind_back = ap (number byte_width) (past (fault_kind_at - mar_at)) ∙ zero_plus (fault_code s.fault).kind
+  kind_back = ap (number byte_width) (past (fault_kind_at - mar_at)) ∙ zero-add (fault_code s.fault).kind
 
   word_back : number word_width (drop fault_word_at bytes) ≡ (fault_code s.fault).word
   unfolding state_bytes count_bytes fault_bytes big_endian
@@ -189,7 +189,7 @@ module _ (s : Snapshot) (f : Fits s) (rest : List ℕ) where
 
   address_back : number byte_width (drop fault_address_at bytes) ≡ (fault_code s.fault).address
   unfolding state_bytes count_bytes fault_bytes big_endian number
-  address_back = ap (number byte_width) (past (fault_address_at - mar_at)) ∙ zero_plus (fault_code s.fault).address
+  address_back = ap (number byte_width) (past (fault_address_at - mar_at)) ∙ zero-add (fault_code s.fault).address
 
   instructions_back : number counter_width (drop instructions_at bytes) ≡ s.instructions
   unfolding state_bytes count_bytes fault_bytes big_endian
@@ -225,7 +225,7 @@ module _ (s : Snapshot) (f : Fits s) (rest : List ℕ) where
       (λ i. leb (halted_byte i) 1 && (leb (kind_back i) 2 && lawful (control_back i)))
       ∙ rw (bit-known s.control.halted, kind_known s.fault)
 
-  pub round_trip : is_good s ≡ true → record_in bytes ≡ found s
+  pub round_trip : is_good s ≡ true → record_in bytes ≡ Some s
   unfolding record_in
   round_trip g = rw (good_back ∙ g, snapshot_back)
 
@@ -255,10 +255,6 @@ module _ (l : List ℕ) (b : (i : ℕ) → get_or l i 0 < 256) where
     memory = numbers-below word_width memory_words (drop memory_at l) (λ j. rw get_or-drop (b (memory_at + j)));
   }
 
-and_right : (s t : Bool) → s && t ≡ true → t ≡ true
-and_right true t e = e
-and_right false t e = cc
-
 pub snapshot_good : (l : List ℕ) → is_record l ≡ true → is_good (snapshot_in l) ≡ true
 unfolding is_record snapshot_in
-snapshot_good l g = and_right (leb (number byte_width (drop fault_kind_at l)) 2) (lawful (control_in l)) (and_right (leb (number byte_width (drop halted_at l)) 1) _ g)
+snapshot_good l g = (both (leb (number byte_width (drop fault_kind_at l)) 2) _ (both (leb (number byte_width (drop halted_at l)) 1) _ g).1).1

@@ -8,9 +8,10 @@ use native.Mathlib.Nat.{add-zero, zero-add, not-suc-le-zero}
 use native.Mathlib.Numerals.{add-one}
 use native.Mathlib.Omega.{arith}
 use borrow.Author.Tests.{leb-true, leb-false, ltb-true, ltb-false}
+use Rattle.std.proofs.Common.{Some, is_some}
 use lib.Dec.{leb, ltb}
 use lib.ListN.{length, drop}
-use Rattle.history.specs.Record.{record_length, record_bytes, snapshot_in, is_record, record_in, found, Fits, is_good}
+use Rattle.history.specs.Record.{record_length, record_bytes, snapshot_in, is_record, record_in, Fits, is_good}
 use Rattle.history.specs.Store.{limit_of, record_at, push_count, push_store, newest, records_from, records_of, AllGood}
 use Rattle.history.specs.Rust.{rust_push, rust_pop, rust_last, Call, play_rust, undone_rust, History, empty, pushed, undone, play, undone_store, Pushable, Same}
 use Rattle.history.specs.declared.snapshot.Snapshot.{Snapshot}
@@ -101,7 +102,7 @@ pop_last [] s = refl
 pop_last (x ∷ []) s = refl
 pop_last (x ∷ y ∷ l) s = ap (λ (r : List Snapshot). x ∷ r) (pop_last (y ∷ l) s)
 
-last_last : (l : List Snapshot) (s : Snapshot) → rust_last (l ++ (s ∷ [])) ≡ found s
+last_last : (l : List Snapshot) (s : Snapshot) → rust_last (l ++ (s ∷ [])) ≡ Some s
 unfolding rust_last
 last_last [] s = refl
 last_last (x ∷ []) s = refl
@@ -115,11 +116,11 @@ records_popped d (suc k) =
     let e : suc k - 1 ≡ k = omega arith in
     ap (records_of d) e ∙ sym (ap rust_pop (records_last d 0 k) ∙ pop_last (records_of d k) (snapshot_in (record_at d (0 + k))))
 
-good-found : (l : List ℕ) → is_record l ≡ true → record_in l ≡ found (snapshot_in l)
+good-found : (l : List ℕ) → is_record l ≡ true → record_in l ≡ Some (snapshot_in l)
 unfolding record_in
 good-found l g = rw g
 
-rust_last_lem : (d : List ℕ) (k : ℕ) → rust_last (records_of d (suc k)) ≡ found (snapshot_in (record_at d (0 + k)))
+rust_last_lem : (d : List ℕ) (k : ℕ) → rust_last (records_of d (suc k)) ≡ Some (snapshot_in (record_at d (0 + k)))
 rust_last_lem d k = ap rust_last (records_last d 0 k) ∙ last_last (records_of d k) (snapshot_in (record_at d (0 + k)))
 
 -- a newest record that is good is the last of the list
@@ -172,7 +173,7 @@ same_pushed {limit} {h} {l} s f g m =
     }
 
 -- an undo takes a record away, if there is one
-undone-count : (d : List ℕ) (count : ℕ) → count ≤ limit_of (length d) → AllGood d count → cond (newest d count).good (count - 1) count ≡ count - 1
+undone-count : (d : List ℕ) (count : ℕ) → count ≤ limit_of (length d) → AllGood d count → cond (is_some (newest d count)) (count - 1) count ≡ count - 1
 undone-count d zero held good = rw (newest-none d 0 refl)
 undone-count d (suc k) held good = rw (newest_last d (suc k) held good ∙ rust_last_lem d k)
 

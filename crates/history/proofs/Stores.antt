@@ -3,22 +3,24 @@
 use mathlib.Core.Path.{◌≡◌, refl, sym, ap, ◌∙◌}
 use mathlib.Core.Bool.{Bool, true, false, cond}
 use mathlib.Core.List.{List, [], append-nil}
+use Rattle.std.proofs.Common.{Some, None}
+use Rattle.std.proofs.lemmas.Option.{none-some, same_Some}
 use Prim.Native.Nat.{ℕ, ◌+◌, ◌-◌, ◌*◌, ◌≤◌, ◌<◌}
 use native.Mathlib.Nat.{add-zero}
 use native.Mathlib.Omega.{arith}
-use borrow.Author.Tests.{lt-ltb, le-ltb, le-leb, lt-leb, eq-eqb, ne_eqb, ltb-true, ltb-false}
+use borrow.Author.Tests.{lt-ltb, le-ltb, le-leb, eq-eqb, ltb-true, ltb-false}
 use lib.Dec.{ltb}
 use lib.ListN.{length, take, drop, get_or, length-append, length-take, length-drop}
 use lib.Seq.{drop-drop, get_or-drop, length-take-le, take_at}
 use Rattle.encoding.specs.Bytes.{over}
 use Rattle.encoding.proofs.Written.{length_over, over_from}
-use Rattle.history.specs.Record.{record_length, record_bytes, snapshot_in, is_record, record_in, no_record, found, Fits, is_good}
+use Rattle.history.specs.Record.{record_length, record_bytes, snapshot_in, is_record, record_in, Fits, is_good}
 use Rattle.history.specs.Store.{limit_of, record_at, with_record, moved_down, push_count, push_store, is_held, newest}
 use Rattle.history.specs.declared.snapshot.Snapshot.{Snapshot}
 use Rattle.history.proofs.Parts.{part_same, take_below}
 use Rattle.history.proofs.Records.{length_record, round_trip, snapshot_fits, snapshot_good}
 
--- ---- push, by whether the store has room, is full, or holds fewer
+-- ---- push, by whether the store has room or is full
 
 pub count-below : (n count : ℕ) → count < limit_of n → push_count n count ≡ count + 1
 count-below n count h = rw (lt-ltb count (limit_of n) h)
@@ -35,14 +37,6 @@ module _ (d : List ℕ) (count : ℕ) (s : Snapshot) where
   unfolding push_store
   store-full h e = rw (le-ltb count (limit_of (length d)) (omega arith), eq-eqb count (limit_of (length d)) e, lt-ltb 0 count h)
 
-  pub store-none : count ≡ 0 → limit_of (length d) ≤ count → push_store d count s ≡ d
-  unfolding push_store
-  store-none z h = rw (le-ltb count (limit_of (length d)) h, eq-eqb count (limit_of (length d)) (omega arith), le-ltb 0 count (omega arith))
-
-  pub store-over : limit_of (length d) < count → push_store d count s ≡ d
-  unfolding push_store
-  store-over h = rw (le-ltb count (limit_of (length d)) (omega arith), ne_eqb count (limit_of (length d)) (λ e. omega arith))
-
 -- ---- the newest record
 
 bytes_at : (d : List ℕ) (k : ℕ) → ((i : ℕ) → get_or d i 0 < 256) → (i : ℕ) → get_or (record_at d k) i 0 < 256
@@ -54,29 +48,24 @@ module _ (d : List ℕ) (count : ℕ) where
   unfolding newest
   newest-held h k = rw (le-leb count (limit_of (length d)) k, lt-ltb 0 count h)
 
-  pub newest-none : count ≡ 0 → newest d count ≡ no_record
+  pub newest-none : count ≡ 0 → newest d count ≡ None
   unfolding newest
   newest-none e = rw (le-leb count (limit_of (length d)) (omega arith), le-ltb 0 count (omega arith))
 
-  pub newest-over : limit_of (length d) < count → newest d count ≡ no_record
-  unfolding newest
-  newest-over h = rw (lt-leb count (limit_of (length d)) h)
-
-  -- where it is good, it is what the record's bytes hold
-  pub newest-good : (newest d count).good ≡ true → (is_record (record_at d (count - 1)) ≡ true) × (newest d count ≡ found (snapshot_in (record_at d (count - 1))))
+  -- where there is one, it is what the record's bytes hold
+  pub newest-good : {s : Snapshot} → newest d count ≡ Some s → (is_record (record_at d (count - 1)) ≡ true) × (s ≡ snapshot_in (record_at d (count - 1)))
   unfolding newest record_in
-  newest-good = go (is_held (length d) count) (is_record (record_at d (count - 1))) (snapshot_in (record_at d (count - 1)))
+  newest-good {s} = go (is_held (length d) count) (is_record (record_at d (count - 1))) (snapshot_in (record_at d (count - 1)))
     where
-      go : (t u : Bool) (s : Snapshot) → (cond t (cond u (found s) no_record) no_record).good ≡ true → (u ≡ true) × (cond t (cond u (found s) no_record) no_record ≡ found s)
-      go true true s e = (refl, refl)
-      go true false s e = (cc, cc)
-      go false u s e = (cc, cc)
+      go : (t u : Bool) (x : Snapshot) → cond t (cond u (Some x) None) None ≡ Some s → (u ≡ true) × (s ≡ x)
+      go true true x e = (refl, sym (same_Some x s e))
+      go true false x e = absurd (none-some s e)
+      go false u x e = absurd (none-some s e)
 
 -- what `undo` takes from a store of bytes fits its fields, and its tick is not refused 8
-pub newest-fits : (d : List ℕ) (count : ℕ) → ((i : ℕ) → get_or d i 0 < 256) → (newest d count).good ≡ true
-    → Fits (newest d count).snapshot × (is_good (newest d count).snapshot ≡ true)
-newest-fits d count b g =
-    let n = newest-good d count g in
+pub newest-fits : (d : List ℕ) (count : ℕ) {s : Snapshot} → ((i : ℕ) → get_or d i 0 < 256) → newest d count ≡ Some s → Fits s × (is_good s ≡ true)
+newest-fits d count b e =
+    let n = newest-good d count e in
     rw n.1 (snapshot_fits (record_at d (count - 1)) (bytes_at d (count - 1) b), snapshot_good (record_at d (count - 1)) n.0)
 
 -- ---- where the records lie
@@ -193,7 +182,7 @@ module _ (d : List ℕ) (count : ℕ) (s : Snapshot) (f : Fits s) (some : record
       rw p.store_is (record_kept p.base p.place s f push-room j h ∙ p.stay j h)
 
   -- what `undo` takes after a push is what was pushed
-  pub newest-pushed : is_good s ≡ true → newest (push_store d count s) (push_count (length d) count) ≡ found s
+  pub newest-pushed : is_good s ≡ true → newest (push_store d count s) (push_count (length d) count) ≡ Some s
   newest-pushed g =
       let p = push_served d count s some held in
       let k : ℕ = p.place in

@@ -1,6 +1,7 @@
 -- A record: one snapshot in 576 bytes (01, section 7). The fields in the Rust's order, numbers high byte first.
 -- Assumes nothing.
-use Rattle.std.specs.Prelude.{ℕ, ◌+◌, ◌*◌, ◌^◌, ◌<◌, ◌≡◌, Bool, true, false, cond, ◌&&◌, List, ◌++◌, eqb, leb, length, drop, get_or, replicate}
+use Rattle.std.specs.Prelude.{ℕ, ◌+◌, ◌*◌, ◌^◌, ◌<◌, ◌≡◌, Bool, cond, ◌&&◌, List, ◌++◌, eqb, leb, length, drop, get_or, Option, Some, None}
+use Rattle.std.specs.Int.{from_bool}
 use Rattle.isa.specs.Sizes.{memory_words, register_count}
 use Rattle.encoding.specs.Bytes.{big_endian, big_endians, number, numbers}
 use Rattle.control.specs.Address.{address_width}
@@ -9,8 +10,6 @@ use Rattle.control.specs.Lawful.{lawful}
 use Rattle.control.specs.Codes.{fault_code, fault_bytes, fault_of}
 use Rattle.control.specs.declared.control.Control.{Control}
 use Rattle.control.specs.declared.control.Fault.{Fault}
-use Rattle.control.specs.declared.control.Fault.TheVariants.{Healthy}
-use Rattle.history.specs.declared.snapshot.Newest.{Newest}
 use Rattle.history.specs.declared.snapshot.Snapshot.{Snapshot}
 
 -- ---- how many bytes a field has
@@ -88,9 +87,6 @@ record_length = padding_at + padding_width
 
 -- ---- written
 
-abbrev pub bit : Bool → ℕ
-bit b = cond b 1 0
-
 -- from PC on: PC, IR, the registers
 unfoldable pub front_bytes : ℕ → ℕ → List ℕ → List ℕ
 front_bytes pc ir registers = big_endian byte_width pc ++ (big_endian word_width ir ++ big_endians word_width registers)
@@ -102,10 +98,10 @@ state_bytes c =
     ++ (big_endian word_width c.mdr
     ++ (big_endian byte_width c.instruction_address
     ++ (big_endian byte_width c.tick
-    ++ (big_endian byte_width c.execute_ticks ++ big_endian byte_width (bit c.halted)))))
+    ++ (big_endian byte_width c.execute_ticks ++ big_endian byte_width (from_bool c.halted)))))
 
 -- from the fault on: its kind, word and address, instructions, micro operations
-unfoldable pub count_bytes : Fault → ℕ → ℕ → List ℕ
+unfoldable pub count_bytes : Option Fault → ℕ → ℕ → List ℕ
 count_bytes f instructions operations = fault_bytes f ++ (big_endian counter_width instructions ++ big_endian counter_width operations)
 
 -- from memory on: memory, two zero bytes
@@ -132,7 +128,7 @@ control_in l =
     (with_execute_ticks (number byte_width (drop execute_ticks_at l))
     (with_halted (eqb (number byte_width (drop halted_at l)) 1) fresh_control)))))))
 
-unfoldable pub fault_in : List ℕ → Fault
+unfoldable pub fault_in : List ℕ → Option Fault
 fault_in l = fault_of (number byte_width (drop fault_kind_at l)) (number word_width (drop fault_word_at l)) (number byte_width (drop fault_address_at l))
 
 -- the bytes behind memory are not read
@@ -150,27 +146,9 @@ snapshot_in l = record {
 unfoldable pub is_record : List ℕ → Bool
 is_record l = leb (number byte_width (drop halted_at l)) 1 && (leb (number byte_width (drop fault_kind_at l)) 2 && lawful (control_in l))
 
--- ---- what `undo` finds
-
-abbrev pub found : Snapshot → Newest
-found s = record { good = true; snapshot = s }
-
-unfoldable pub blank : Snapshot
-blank = record {
-  registers = replicate register_count 0;
-  memory = replicate memory_words 0;
-  control = fresh_control;
-  fault = Healthy;
-  instructions = 0;
-  micro_operations = 0;
-}
-
-abbrev pub no_record : Newest
-no_record = record { good = false; snapshot = blank }
-
--- the snapshot in the bytes, where they are a record's
-unfoldable pub record_in : List ℕ → Newest
-record_in l = cond (is_record l) (found (snapshot_in l)) no_record
+-- the snapshot in the bytes, where they are a record's: what `undo` finds
+unfoldable pub record_in : List ℕ → Option Snapshot
+record_in l = cond (is_record l) (Some (snapshot_in l)) None
 
 -- ---- the snapshots that come back
 

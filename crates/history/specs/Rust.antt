@@ -1,9 +1,8 @@
 -- The Rust's history (vm.rs, `push_history` and `undo`): a list of snapshots, oldest first; and lists of calls on it and on the store.
 -- Assumes nothing.
-use Rattle.std.specs.Prelude.{ℕ, ◌+◌, ◌-◌, ◌≤◌, ◌≡◌, true, cond, List, [], ◌∷◌, ◌++◌, leb, length, drop}
-use Rattle.history.specs.Record.{record_length, found, no_record, Fits, is_good}
+use Rattle.std.specs.Prelude.{ℕ, ◌+◌, ◌-◌, ◌≤◌, ◌≡◌, true, cond, List, [], ◌∷◌, ◌++◌, leb, length, drop, Option, Some, None, is_some}
+use Rattle.history.specs.Record.{record_length, Fits, is_good}
 use Rattle.history.specs.Store.{limit_of, push_count, push_store, newest, records_of, AllGood}
-use Rattle.history.specs.declared.snapshot.Newest.{Newest}
 use Rattle.history.specs.declared.snapshot.Snapshot.{Snapshot}
 
 -- ---- the Rust
@@ -19,9 +18,9 @@ rust_pop (s ∷ []) = []
 rust_pop (s ∷ t ∷ l) = s ∷ rust_pop (t ∷ l)
 
 -- what `pop` gives
-unfoldable pub rust_last : List Snapshot → Newest
-rust_last [] = no_record
-rust_last (s ∷ []) = found s
+unfoldable pub rust_last : List Snapshot → Option Snapshot
+rust_last [] = None
+rust_last (s ∷ []) = Some s
 rust_last (s ∷ t ∷ l) = rust_last (t ∷ l)
 
 -- ---- lists of calls
@@ -37,7 +36,7 @@ play_rust limit (push s ∷ calls) l = play_rust limit calls (rust_push limit s 
 play_rust limit (undo ∷ calls) l = play_rust limit calls (rust_pop l)
 
 -- what each undo among them takes
-unfoldable pub undone_rust : ℕ → List Call → List Snapshot → List Newest
+unfoldable pub undone_rust : ℕ → List Call → List Snapshot → List (Option Snapshot)
 undone_rust limit [] l = []
 undone_rust limit (push s ∷ calls) l = undone_rust limit calls (rust_push limit s l)
 undone_rust limit (undo ∷ calls) l = rust_last l ∷ undone_rust limit calls (rust_pop l)
@@ -57,14 +56,14 @@ pushed s h = record { store = push_store h.store h.count s; count = push_count (
 
 -- an undo that finds no record changes nothing
 abbrev pub undone : History → History
-undone h = record { store = h.store; count = cond (newest h.store h.count).good (h.count - 1) h.count }
+undone h = record { store = h.store; count = cond (is_some (newest h.store h.count)) (h.count - 1) h.count }
 
 unfoldable pub play : List Call → History → History
 play [] h = h
 play (push s ∷ calls) h = play calls (pushed s h)
 play (undo ∷ calls) h = play calls (undone h)
 
-unfoldable pub undone_store : List Call → History → List Newest
+unfoldable pub undone_store : List Call → History → List (Option Snapshot)
 undone_store [] h = []
 undone_store (push s ∷ calls) h = undone_store calls (pushed s h)
 undone_store (undo ∷ calls) h = newest h.store h.count ∷ undone_store calls (undone h)

@@ -1,9 +1,8 @@
 -- The history in a lent store (01, section 7): records one behind the other, the oldest at byte 0.
 -- Assumes nothing.
-use Rattle.std.specs.Prelude.{ℕ, zero, suc, ◌+◌, ◌-◌, ◌*◌, ◌/◌, ◌<◌, min, ◌≡◌, Bool, true, cond, ◌&&◌, List, [], ◌∷◌, ◌++◌, eqb, leb, ltb, length, take, drop}
+use Rattle.std.specs.Prelude.{ℕ, zero, suc, ◌+◌, ◌-◌, ◌*◌, ◌/◌, ◌<◌, min, ◌≡◌, Bool, true, cond, ◌&&◌, List, [], ◌∷◌, ◌++◌, eqb, leb, ltb, length, take, drop, Option, None}
 use Rattle.encoding.specs.Bytes.{over}
-use Rattle.history.specs.Record.{record_length, record_bytes, snapshot_in, is_record, record_in, no_record}
-use Rattle.history.specs.declared.snapshot.Newest.{Newest}
+use Rattle.history.specs.Record.{record_length, record_bytes, snapshot_in, is_record, record_in}
 use Rattle.history.specs.declared.snapshot.Snapshot.{Snapshot}
 
 abbrev pub history_limit : ℕ
@@ -47,8 +46,8 @@ push_store d count s =
 abbrev pub is_held : ℕ → ℕ → Bool
 is_held n count = leb count (limit_of n) && ltb 0 count
 
-unfoldable pub newest : List ℕ → ℕ → Newest
-newest d count = cond (is_held (length d) count) (record_in (record_at d (count - 1))) no_record
+unfoldable pub newest : List ℕ → ℕ → Option Snapshot
+newest d count = cond (is_held (length d) count) (record_in (record_at d (count - 1))) None
 
 -- ---- the whole history
 

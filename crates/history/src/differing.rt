@@ -5,6 +5,7 @@ ghost use Rattle.history.specs.Differences.{differences_of};
 use control::Address;
 use isa::MEMORY_WORDS;
 
+// An array with a count: memory is fixed, without a heap, and a machine keeps its `touched` so.
 #[derive(Drop)]
 pub struct Differences {
     pub addresses: [Address; MEMORY_WORDS],
@@ -17,13 +18,11 @@ pub fn differing_addresses(image: [u16; MEMORY_WORDS], memory: [u16; MEMORY_WORD
 {
     let mut addresses = [0 as Address; MEMORY_WORDS];
     let mut count: usize = 0;
-    let mut i: usize = 0;
-    while i < MEMORY_WORDS {
-        if image[i] != memory[i] {
+    for (i, (before, now)) in image.iter().zip(&memory).enumerate() {
+        if before != now {
             addresses[count] = i as Address;
             count += 1;
         }
-        i += 1;
     }
     Differences { addresses, count }
 }

@@ -3,11 +3,11 @@ ghost use Rattle.std.specs.Prelude.{◌≡◌, ◌+◌, ◌*◌, ◌≤◌, leng
 ghost use Rattle.encoding.specs.Bytes.{over, number};
 ghost use Rattle.isa.specs.Sizes.{memory_words};
 ghost use Rattle.history.specs.Record.{byte_width, word_width, pc_at, registers_at, mar_at, fault_kind_at, memory_at, record_length};
-ghost use Rattle.history.specs.Record.{bit, front_bytes, state_bytes, count_bytes, memory_bytes, record_bytes};
+ghost use Rattle.history.specs.Record.{front_bytes, state_bytes, count_bytes, memory_bytes, record_bytes};
 ghost use Rattle.history.specs.Record.{control_in, fault_in, is_record, snapshot_in, record_in};
 
-use crate::snapshot::{Newest, Snapshot, no_record};
-use control::{ADDRESS_WIDTH, Control, Fault, fault_of, is_lawful};
+use crate::snapshot::Snapshot;
+use control::{ADDRESS_WIDTH, Control, Fault, fault_bytes, fault_of, is_lawful};
 use encoding::{get_number, get_words, put_bytes, put_number, put_words};
 use isa::{MEMORY_WORDS, REGISTER_COUNT};
 
@@ -55,12 +55,6 @@ const PADDING_AT: usize = MEMORY_AT + WORD_WIDTH * MEMORY_WORDS;
 
 pub(crate) const RECORD_LENGTH: usize = PADDING_AT + PADDING_WIDTH;
 
-fn halted_bit(halted: bool) -> u64
-    ensures { result ≡ bit halted }
-{
-    if halted { 1 } else { 0 }
-}
-
 // From PC to the registers.
 fn put_front(part: &mut [u8], pc: u8, ir: u16, registers: &[u16])
     requires { registers_at + word_width * length registers.now ≤ length part.old }
@@ -91,15 +85,15 @@ fn put_state(part: &mut [u8], control: Control)
         BYTE_WIDTH,
         control.execute_ticks as u64,
     );
-    put_number(part, HALTED_AT, BYTE_WIDTH, halted_bit(control.halted));
+    put_number(part, HALTED_AT, BYTE_WIDTH, u64::from(control.halted));
 }
 
 // The fault and the two counters.
-fn put_counts(part: &mut [u8], fault: Fault, instructions: u64, micro_operations: u64)
+fn put_counts(part: &mut [u8], fault: Option<Fault>, instructions: u64, micro_operations: u64)
     requires { record_length ≤ length part.old }
     ensures { part.new ≡ over part.old fault_kind_at (count_bytes fault instructions micro_operations) }
 {
-    let bytes = fault.bytes();
+    let bytes = fault_bytes(fault);
     put_bytes(part, FAULT_KIND_AT, &bytes);
     put_number(part, INSTRUCTIONS_AT, COUNTER_WIDTH, instructions);
     put_number(part, MICRO_OPERATIONS_AT, COUNTER_WIDTH, micro_operations);
@@ -115,89 +109,84 @@ fn put_memory(part: &mut [u8], memory: &[u16])
 }
 
 // Writes a record over the first bytes of the part; what is behind it is kept.
+#[tactic(auto, using(crate::proofs::Records::record_over))]
 pub(crate) fn encode(part: &mut [u8], snapshot: Snapshot)
     requires { record_length ≤ length part.old }
     ensures { part.new ≡ over part.old 0 (record_bytes snapshot) }
 {
-    let registers = snapshot.registers;
-    let memory = snapshot.memory;
-    let control = snapshot.control;
-    let fault = snapshot.fault;
-    put_front(part, control.pc, control.ir, &registers);
-    put_state(part, control);
+    put_front(
+        part,
+        snapshot.control.pc,
+        snapshot.control.ir,
+        &snapshot.registers,
+    );
+    put_state(part, snapshot.control);
     put_counts(
         part,
-        fault,
+        snapshot.fault,
         snapshot.instructions,
         snapshot.micro_operations,
     );
-    put_memory(part, &memory);
+    put_memory(part, &snapshot.memory);
 }
 
+#[tactic(auto, unfolding(encoding::specs::Bytes::number))]
 fn byte_at(part: &[u8], at: usize) -> u8
     requires { at + byte_width ≤ length part.now }
     ensures { result ≡ number byte_width (drop at part.now) }
 {
-    get_number(part, at, BYTE_WIDTH) as u8
+    part[at]
 }
 
+#[tactic(auto, unfolding(encoding::specs::Bytes::number))]
 fn word_at(part: &[u8], at: usize) -> u16
     requires { at + word_width ≤ length part.now }
     ensures { result ≡ number word_width (drop at part.now) }
 {
-    get_number(part, at, WORD_WIDTH) as u16
+    u16::from_be_bytes([part[at], part[at + 1]])
 }
 
+#[tactic(auto, unfolding(crate::specs::Record::control_in))]
 fn control_in(part: &[u8]) -> Control
     requires { record_length ≤ length part.now }
     ensures { result ≡ control_in part.now }
 {
-    let pc = byte_at(part, PC_AT);
-    let ir = word_at(part, IR_AT);
-    let mar = byte_at(part, MAR_AT);
-    let mdr = word_at(part, MDR_AT);
-    let instruction_address = byte_at(part, INSTRUCTION_ADDRESS_AT);
-    let tick = byte_at(part, TICK_AT);
-    let execute_ticks = byte_at(part, EXECUTE_TICKS_AT);
-    let halted = byte_at(part, HALTED_AT);
     Control {
-        ir,
-        mdr,
-        pc,
-        mar,
-        instruction_address,
-        tick,
-        execute_ticks,
-        halted: halted == 1,
+        ir: word_at(part, IR_AT),
+        mdr: word_at(part, MDR_AT),
+        pc: byte_at(part, PC_AT),
+        mar: byte_at(part, MAR_AT),
+        instruction_address: byte_at(part, INSTRUCTION_ADDRESS_AT),
+        tick: byte_at(part, TICK_AT),
+        execute_ticks: byte_at(part, EXECUTE_TICKS_AT),
+        halted: byte_at(part, HALTED_AT) == 1,
     }
 }
 
-fn fault_in(part: &[u8]) -> Fault
+#[tactic(auto, unfolding(crate::specs::Record::fault_in))]
+fn fault_in(part: &[u8]) -> Option<Fault>
     requires { record_length ≤ length part.now }
     ensures { result ≡ fault_in part.now }
 {
-    let kind = byte_at(part, FAULT_KIND_AT);
-    let word = word_at(part, FAULT_WORD_AT);
-    let address = byte_at(part, FAULT_ADDRESS_AT);
-    fault_of(kind, word, address)
+    fault_of(
+        byte_at(part, FAULT_KIND_AT),
+        word_at(part, FAULT_WORD_AT),
+        byte_at(part, FAULT_ADDRESS_AT),
+    )
 }
 
 // Whether the first bytes of the part are those of a record.
+#[tactic(auto, unfolding(crate::specs::Record::is_record))]
 fn is_record(part: &[u8]) -> bool
     requires { record_length ≤ length part.now }
     ensures { result ≡ is_record part.now }
 {
-    let halted = byte_at(part, HALTED_AT);
-    if 1 < halted {
-        return false;
-    }
-    let kind = byte_at(part, FAULT_KIND_AT);
-    if 2 < kind {
-        return false;
-    }
-    is_lawful(control_in(part))
+    byte_at(part, HALTED_AT) <= 1
+        && byte_at(part, FAULT_KIND_AT) <= 2
+        && is_lawful(control_in(part))
 }
 
+#[tactic(auto, using(crate::proofs::Parts::number_inside, crate::proofs::Parts::words_inside), unfolding(crate::specs::Record::snapshot_in))]
 fn snapshot_in(part: &[u8]) -> Snapshot
     requires { record_length ≤ length part.now }
     ensures { result ≡ snapshot_in part.now }
@@ -206,31 +195,25 @@ fn snapshot_in(part: &[u8]) -> Snapshot
     get_words(part, REGISTERS_AT, &mut registers);
     let mut memory = [0u16; MEMORY_WORDS];
     get_words(part, MEMORY_AT, &mut memory);
-    let control = control_in(part);
-    let fault = fault_in(part);
-    let instructions = get_number(part, INSTRUCTIONS_AT, COUNTER_WIDTH);
-    let micro_operations = get_number(part, MICRO_OPERATIONS_AT, COUNTER_WIDTH);
     Snapshot {
         registers,
         memory,
-        control,
-        fault,
-        instructions,
-        micro_operations,
+        control: control_in(part),
+        fault: fault_in(part),
+        instructions: get_number(part, INSTRUCTIONS_AT, COUNTER_WIDTH),
+        micro_operations: get_number(part, MICRO_OPERATIONS_AT, COUNTER_WIDTH),
     }
 }
 
 // Reads the record in the first bytes of the part.
-pub(crate) fn decode(part: &[u8]) -> Newest
+#[tactic(auto, unfolding(crate::specs::Record::record_in))]
+pub(crate) fn decode(part: &[u8]) -> Option<Snapshot>
     requires { record_length ≤ length part.now }
     ensures { result ≡ record_in part.now }
 {
     if is_record(part) {
-        let snapshot = snapshot_in(part);
-        return Newest {
-            good: true,
-            snapshot,
-        };
+        Some(snapshot_in(part))
+    } else {
+        None
     }
-    no_record()
 }

@@ -9,6 +9,6 @@ mod snapshot;
 mod store;
 
 pub use differing::{Differences, differing_addresses};
-pub use restore::{one_less, restored_counters, restored_state, store_refusal, undo_refusal};
-pub use snapshot::{Newest, Snapshot};
+pub use restore::{restored_counters, restored_state, store_refusal, undo_refusal};
+pub use snapshot::Snapshot;
 pub use store::{history_limit, newest_record, push_record};

@@ -5,8 +5,7 @@ use mathlib.Core.Path.{◌≡◌, ap, ◌∙◌}
 use mathlib.Core.List.{List}
 use lib.ListN.{length, get_or, take, length-map, get_or-map}
 use lib.Seq.{take_all}
-use Rattle.isa.specs.declared.text.Text.{Text}
-use Rattle.isa.specs.Text.{text}
+use Rattle.isa.specs.Text.{Text, text}
 use Rattle.isa.specs.Format.{hex4, fill, fill_byte}
 
 pub length-fill : (w : ℕ) (s : List ℕ) → length (fill w s) ≡ length s

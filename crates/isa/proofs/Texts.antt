@@ -4,27 +4,21 @@ use Prim.Native.Char.{code}
 use Prim.Native.Nat.{ℕ, zero, suc, ◌+◌, ◌-◌, ◌≤◌, ◌<◌, min}
 use native.Mathlib.Omega.{arith}
 use native.Mathlib.Numerals.{add-one}
-use mathlib.Core.Bool.{Bool, true, false}
 use mathlib.Core.Path.{◌≡◌, refl, sym, ap, ◌∙◌}
 use mathlib.Core.List.{List, [], ◌∷◌, ◌++◌, append_assoc}
-use borrow.Author.Tests.{ne_eqb, leb-true, leb-false}
-use lib.Dec.{leb}
-use lib.ListN.{length, get_or, take, set, replicate, length-append, length-replicate}
-use lib.Seq.{take-append_seam, set-append_seam, take-suc, take_all, length-take-le}
-use Rattle.isa.specs.Text.{padded, text, long_text, text_of, trimmed, unless_space}
+use borrow.Author.Tests.{ne_eqb}
+use lib.ListN.{length, get_or, take, drop, set, replicate, length-append, length-replicate}
+use lib.Seq.{take-append_seam, set-append_seam, take-suc, length-take-le}
+use Rattle.std.proofs.lemmas.List.{take_min, length-take, drop-replicate}
+use Rattle.isa.specs.Text.{padded, fixed_text, text, text_of, trimmed, unless_space}
 
 pub text_of-text : (xs : List ℕ) → text_of (text xs) ≡ xs
-unfolding text_of text padded
+unfolding text_of fixed_text padded
 text_of-text xs = take-append_seam xs (replicate (32 - length xs) 0)
 
 pub length-padded : (n : ℕ) (xs : List ℕ) → length xs ≤ n → length (padded n xs) ≡ n
 unfolding padded
 length-padded n xs h = simp (length-append, length-replicate) (omega arith)
-
-pub take-replicate : (k n x : ℕ) → k ≤ n → take k (replicate n x) ≡ replicate k x
-take-replicate zero n x h = refl
-take-replicate (suc k) zero x h = absurd (omega arith)
-take-replicate (suc k) (suc n) x h = ap (λ (r : List ℕ). x ∷ r) (take-replicate k n x (omega arith))
 
 -- zeros behind a list are what stands past its end
 pub zeros_at : (n i : ℕ) → ◌≡◌ {A = ℕ} (get_or (replicate n 0) i 0) 0
@@ -56,38 +50,19 @@ filled_next n xs i h k e =
     let p : set (padded n (take i xs)) (length (take i xs)) (get_or xs i 0) ≡ padded n (take i xs ++ (get_or xs i 0 ∷ [])) = padded_stored n (take i xs) (get_or xs i 0) (omega arith) in
     rw (e, add-one, take-suc xs i 0 k) (rw l at p)
 
--- its end, after m turns, m the smaller of n and the length of xs
-taken : (n : ℕ) (xs : List ℕ) (m : ℕ) → m ≡ min (length xs) n → take m xs ≡ take n xs
-taken n xs m h = go (leb n m) refl
-  where
-    go : (b : Bool) → leb n m ≡ b → take m xs ≡ take n xs
-    go true e =
-        let f : n ≤ m = leb-true n m e in
-        let full : m ≡ n = omega arith in
-        ap (λ (k : ℕ). take k xs) full
-    go false e =
-        let f : m < n = leb-false n m e in
-        take_all m xs (omega arith) ∙ sym (take_all n xs (omega arith))
+-- its end, after n turns, n the smaller of k and the length of xs
+pub filled_text : (room : ℕ) (xs : List ℕ) (k n : ℕ) {bytes : List ℕ} → n ≡ min k (length xs) → bytes ≡ padded room (take n xs)
+    → record { bytes = bytes; len = n } ≡ fixed_text room (take k xs)
+unfolding fixed_text
+filled_text room xs k n e b = rw (b, e, take_min, ← (length-take k xs))
 
-filled_end : (n : ℕ) (xs : List ℕ) (m i : ℕ) {bytes : List ℕ} → i ≡ m → m ≡ min (length xs) n → bytes ≡ padded n (take i xs)
-    → (bytes ≡ padded n (take n xs)) × (i ≡ length (take n xs))
-filled_end n xs m i e h b =
-    let t : take i xs ≡ take n xs = ap (λ (k : ℕ). take k xs) e ∙ taken n xs m h in
-    (b ∙ ap (padded n) t, sym (length-take-le i xs (omega arith)) ∙ ap length t)
-
-pub filled_text : (xs : List ℕ) (m i : ℕ) {bytes : List ℕ} → i ≡ m → m ≡ min (length xs) 32 → bytes ≡ padded 32 (take i xs)
-    → record { bytes = bytes; len = i } ≡ text (take 32 xs)
-unfolding text
-filled_text xs m i e h b =
-    let f = filled_end 32 xs m i e h b in
-    λ j. record { bytes = f.0 j; len = f.1 j }
-
-pub filled_long : (xs : List ℕ) (m i : ℕ) {bytes : List ℕ} → i ≡ m → m ≡ min (length xs) 80 → bytes ≡ padded 80 (take i xs)
-    → record { bytes = bytes; len = i } ≡ long_text (take 80 xs)
-unfolding long_text
-filled_long xs m i e h b =
-    let f = filled_end 80 xs m i e h b in
-    λ j. record { bytes = f.0 j; len = f.1 j }
+-- the first bytes copied, zeros past them
+pub copied_text : (room : ℕ) (xs : List ℕ) (k n : ℕ) {front : List ℕ} → n ≡ min k (length xs) → front ≡ take n xs
+    → record { bytes = front ++ drop n (replicate room 0); len = n } ≡ fixed_text room (take k xs)
+unfolding padded
+copied_text room xs k n e f =
+    let l : length (take n xs) ≡ n = length-take-le n xs (omega arith) in
+    filled_text room xs k n e (rw (f, l, drop-replicate))
 
 -- ---- without the spaces at the end
 

@@ -1,5 +1,6 @@
 -- What is read off a word by way of the struct that wraps it; a word is its four digits, the first of them its opcode's.
 -- Assumes nothing.
+use Rattle.std.specs.Prelude.{None, Option, Some}
 use Prim.Native.Nat.{ℕ, ◌+◌, ◌*◌, ◌/◌, ◌%◌, ◌<◌}
 use native.Mathlib.Omega.{arith}
 use native.Mathlib.Nat.{div-div-eq-div-mul, div-add-mod', mod-eq_of_lt}
@@ -9,8 +10,6 @@ use borrow.Author.Tests.{eqb-true}
 use lib.Dec.{eqb}
 use Rattle.isa.specs.declared.instruction.Instruction.{Instruction}
 use Rattle.isa.specs.declared.opcode.Opcode.{Opcode}
-use Rattle.isa.specs.declared.opcode.Decoded.{Decoded}
-use Rattle.isa.specs.declared.opcode.Decoded.TheVariants.{Known, Unknown}
 use Rattle.isa.specs.Opcode.{digits, decode_nibble, nibble_of}
 use Rattle.isa.specs.Word.{digit_w, digit_x, digit_y, digit_z, decode_word, instruction}
 use Rattle.isa.proofs.Truths.{below, tested}
@@ -20,7 +19,7 @@ pub read_off : {A : Type 0} (f : ℕ → A) (w : ℕ) {i : Instruction} {x : A} 
 read_off f w e g = ap (λ (j : Instruction). f j.raw) (sym e) ∙ sym g
 
 -- what it decodes to
-pub decodes : (w : ℕ) {i : Instruction} {o d : Decoded} → i ≡ instruction w → o ≡ decode_word i.raw → o ≡ d → decode_word w ≡ d
+pub decodes : (w : ℕ) {i : Instruction} {o d : Option Opcode} → i ≡ instruction w → o ≡ decode_word i.raw → o ≡ d → decode_word w ≡ d
 decodes w e f g = read_off decode_word w e f ∙ g
 
 -- a word by its digits
@@ -35,16 +34,16 @@ by_digits w h =
     omega (arith, c, p, q, r)
 
 -- a digit says its own opcode, if any
-own : ℕ → Decoded → Bool
-own n (Known o) = eqb (nibble_of o) n
-own n Unknown = true
+own : ℕ → Option Opcode → Bool
+own n (Some o) = eqb (nibble_of o) n
+own n None = true
 
 own_digits : below (λ (n : ℕ). own n (decode_nibble n)) 16 ≡ true
 unfolding own decode_nibble digits
 own_digits = refl
 
 -- the first digit of a word that has an opcode
-pub opcode_digit : (w : ℕ) (o : Opcode) → decode_word w ≡ Known o → digit_w w ≡ nibble_of o
+pub opcode_digit : (w : ℕ) (o : Opcode) → decode_word w ≡ Some o → digit_w w ≡ nibble_of o
 unfolding own
 opcode_digit w o e =
     let t : own (digit_w w) (decode_word w) ≡ true = tested (λ (n : ℕ). own n (decode_nibble n)) 16 own_digits (digit_w w) (omega arith) in

@@ -1,38 +1,36 @@
 -- Opcodes: the digit of each, its fixed texts and its group (01, section 2; isa.rs).
 -- Assumes nothing.
-use Rattle.std.specs.Prelude.{ℕ, List, [], ◌∷◌, get_or}
+use Rattle.std.specs.Prelude.{ℕ, List, [], ◌∷◌, get_or, None, Option, Some}
 use Prim.Native.String.{String}
 use Rattle.isa.specs.declared.opcode.Opcode.{Opcode}
 use Rattle.isa.specs.declared.opcode.Opcode.TheVariants.{LoadImmediate, LoadRegister, LoadMemory, StoreMemory, Add, Negate, ShiftRight, ShiftLeft, And, Or, Xor, Jump, Halt}
-use Rattle.isa.specs.declared.opcode.Decoded.{Decoded}
-use Rattle.isa.specs.declared.opcode.Decoded.TheVariants.{Known, Unknown}
 use Rattle.isa.specs.declared.opcode.InstructionGroup.{InstructionGroup}
 use Rattle.isa.specs.declared.opcode.InstructionGroup.TheVariants.{DataTransfer, ArithmeticLogic, Control}
 
 -- what each digit says, from 0 to F
-unfoldable pub digits : List Decoded
+unfoldable pub digits : List (Option Opcode)
 digits =
-    Unknown
-    ∷ Known LoadImmediate
-    ∷ Known LoadRegister
-    ∷ Known LoadMemory
-    ∷ Known StoreMemory
-    ∷ Unknown
-    ∷ Known Add
-    ∷ Known Negate
-    ∷ Known ShiftRight
-    ∷ Known ShiftLeft
-    ∷ Known And
-    ∷ Known Or
-    ∷ Known Xor
-    ∷ Known Jump
-    ∷ Known Halt
-    ∷ Unknown
+    None
+    ∷ Some LoadImmediate
+    ∷ Some LoadRegister
+    ∷ Some LoadMemory
+    ∷ Some StoreMemory
+    ∷ None
+    ∷ Some Add
+    ∷ Some Negate
+    ∷ Some ShiftRight
+    ∷ Some ShiftLeft
+    ∷ Some And
+    ∷ Some Or
+    ∷ Some Xor
+    ∷ Some Jump
+    ∷ Some Halt
+    ∷ None
     ∷ []
 
 -- what a digit says
-unfoldable pub decode_nibble : ℕ → Decoded
-decode_nibble n = get_or digits n Unknown
+unfoldable pub decode_nibble : ℕ → Option Opcode
+decode_nibble n = get_or digits n None
 
 -- every opcode, in encoding order: `Opcode::ALL`
 abbrev pub opcodes : List Opcode

@@ -4,8 +4,7 @@ use Rattle.std.specs.Prelude.{ℕ, ◌-◌, cond, List, [], ◌∷◌, ◌++◌,
 use Prim.Native.Char.{code}
 use Prim.Native.String.{String, [] as none, ◌∷◌ as ◌then◌}
 use Rattle.isa.specs.Sizes.{text_width}
-use Rattle.isa.specs.declared.text.Text.{Text}
-use Rattle.isa.specs.declared.text.LongText.{LongText}
+use Rattle.isa.specs.declared.text.FixedText.{FixedText}
 
 -- the codes of the characters of a quoted text
 abbrev pub ascii : String → List ℕ
@@ -30,13 +29,20 @@ unfoldable pub trimmed : List ℕ → List ℕ
 trimmed [] = []
 trimmed (x ∷ xs) = unless_space x (trimmed xs)
 
--- the struct that holds xs, zeros past it
-unfoldable pub text : List ℕ → Text
-text xs = record { bytes = padded text_width xs; len = length xs }
+-- a text of at most n bytes
+unfoldable pub fixed_text : (n : ℕ) → List ℕ → FixedText n
+fixed_text n xs = record { bytes = padded n xs; len = length xs }
 
--- the same for the longer fixed texts
-unfoldable pub long_text : List ℕ → LongText
-long_text xs = record { bytes = padded 80 xs; len = length xs }
+-- the texts, with room for 32 bytes: the struct that holds xs, zeros past it
+abbrev pub Text : Type 0
+Text = FixedText text_width
+
+abbrev pub text : List ℕ → Text
+text xs = fixed_text text_width xs
+
+-- the longer fixed texts
+abbrev pub long_text : List ℕ → FixedText 80
+long_text xs = fixed_text 80 xs
 
 -- the live bytes of a text
 unfoldable pub text_of : Text → List ℕ

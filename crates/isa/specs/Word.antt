@@ -1,9 +1,9 @@
 -- A word's four digits: opcode, x, y, z; yz is one byte (01, section 2; isa.rs, `Instruction`).
 -- Assumes nothing.
-use Rattle.std.specs.Prelude.{ℕ, ◌+◌, ◌*◌, ◌/◌, ◌%◌, List, [], ◌∷◌}
+use Rattle.std.specs.Prelude.{ℕ, ◌+◌, ◌*◌, ◌/◌, ◌%◌, List, [], ◌∷◌, Option}
+use Rattle.isa.specs.declared.opcode.Opcode.{Opcode}
 use Rattle.isa.specs.declared.instruction.Instruction.{Instruction}
 use Rattle.isa.specs.declared.instruction.Xyz.{Xyz}
-use Rattle.isa.specs.declared.opcode.Decoded.{Decoded}
 use Rattle.isa.specs.Opcode.{decode_nibble}
 
 abbrev pub digit_w : ℕ → ℕ
@@ -26,7 +26,7 @@ abbrev pub nibbles_of : ℕ → List ℕ
 nibbles_of w = digit_w w ∷ digit_x w ∷ digit_y w ∷ digit_z w ∷ []
 
 -- the opcode of a word
-abbrev pub decode_word : ℕ → Decoded
+abbrev pub decode_word : ℕ → Option Opcode
 decode_word w = decode_nibble (digit_w w)
 
 -- the word with these digits; of each byte the low digit counts

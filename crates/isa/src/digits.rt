@@ -5,7 +5,7 @@ ghost use Rattle.isa.specs.Format.{hex2, hex4, fill_byte, fill, register_name};
 
 use crate::TEXT_WIDTH;
 use crate::table::digit_pair;
-use crate::text::{Text, least};
+use crate::text::Text;
 
 // The four digits of a word: the pairs of its two bytes, the low one first. A loop, so that the table is read in
 // one place of the code: with a call for each byte a disassembly takes a seventh longer.
@@ -44,16 +44,14 @@ pub fn format(template: &[u8], word: u16) -> Text
     ensures { result ≡ text (take 32 (fill word template.now)) }
 {
     let digits = digits_of(word);
-    let n = least(template.len(), TEXT_WIDTH);
+    let n = template.len().min(TEXT_WIDTH);
     let mut bytes = [0u8; TEXT_WIDTH];
-    let mut i = 0;
-    while i < n {
+    for i in 0..n {
         bytes[i] = filled(digits, template[i]);
-        i += 1;
     }
     Text {
         bytes,
-        len: i as u8,
+        len: n as u8,
     }
 }
 
@@ -66,6 +64,7 @@ pub fn format_word(word: u16) -> Text
 }
 
 // Format a byte as two uppercase hexadecimal digits.
+#[tactic(auto, unfolding(crate::specs::Format::fill))]
 pub fn format_byte(value: u8) -> Text
     ensures { result ≡ text (hex2 value) }
 {
@@ -73,15 +72,9 @@ pub fn format_byte(value: u8) -> Text
 }
 
 // The name of a register: R0, R1, .. RA, RF.
+#[tactic(auto, unfolding(crate::specs::Format::fill))]
 pub fn register_name(index: u8) -> Text
     ensures { result ≡ text (register_name index) }
 {
     format(b"Rz", index as u16)
-}
-
-// A byte that may be missing: the Rust's Option<u8>.
-#[derive(Drop)]
-pub enum ByteOption {
-    Some(u8),
-    None,
 }

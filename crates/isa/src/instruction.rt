@@ -7,7 +7,7 @@ ghost use Rattle.isa.specs.Nibbles.{unused_nibbles};
 ghost use Rattle.isa.specs.Format.{hex4};
 
 use crate::digits::format_word;
-use crate::opcode::{Decoded, Opcode};
+use crate::opcode::Opcode;
 use crate::text::Text;
 
 // A MASSEY machine instruction: a 16-bit word.
@@ -67,7 +67,7 @@ impl Instruction {
     }
 
     // The opcode, or `Unknown` where the first digit is no MASSEY opcode.
-    pub fn opcode(self) -> Decoded
+    pub fn opcode(self) -> Option<Opcode>
         ensures { result ≡ decode_word self.raw }
     {
         Opcode::from_nibble(self.opcode_nibble())
@@ -125,8 +125,8 @@ impl Instruction {
     {
         let decoded = self.opcode();
         match decoded {
-            Decoded::Known(opcode) => opcode.unused(self.raw),
-            Decoded::Unknown => 0,
+            Some(opcode) => opcode.unused(self.raw),
+            None => 0,
         }
     }
 

@@ -7,10 +7,10 @@ mod opcode;
 mod table;
 mod text;
 
-pub use digits::{ByteOption, digits_of, format, format_byte, format_word, register_name};
+pub use digits::{digits_of, format, format_byte, format_word, register_name};
 pub use instruction::{Instruction, Xyz};
-pub use opcode::{Decoded, InstructionGroup, Opcode};
-pub use text::{LongText, Text, least};
+pub use opcode::{InstructionGroup, Opcode};
+pub use text::{FixedText, LongText, Text};
 
 // Memory locations in the MASSEY machine (addresses 00 to FF).
 pub const MEMORY_WORDS: usize = 256;

@@ -7,42 +7,35 @@ ghost use Rattle.isa.specs.Nibbles.{unused_of};
 
 use crate::text::{LongText, Text};
 
-// The opcode of a MASSEY machine instruction. 0, 5 and F have none.
-#[derive(Clone, Copy)]
+// The opcode of a MASSEY machine instruction, by its digit. 0, 5 and F have none.
+#[derive(Clone, Copy, Debug, PartialEq, Eq)]
 pub enum Opcode {
     // 1xYZ, LOAD Rx, YZ.
-    LoadImmediate,
+    LoadImmediate = 0x1,
     // 20xy, LOAD Rx, Ry.
-    LoadRegister,
+    LoadRegister = 0x2,
     // 3xYZ, LOAD Rx, [YZ].
-    LoadMemory,
+    LoadMemory = 0x3,
     // 4xYZ, STORE Rx, [YZ].
-    StoreMemory,
+    StoreMemory = 0x4,
     // 6xyz, Rx = Ry + Rz.
-    Add,
+    Add = 0x6,
     // 70x0, NEGATE Rx.
-    Negate,
+    Negate = 0x7,
     // 8xYZ, SHIFT Rx RIGHT YZ.
-    ShiftRight,
+    ShiftRight = 0x8,
     // 9xYZ, SHIFT Rx LEFT YZ.
-    ShiftLeft,
+    ShiftLeft = 0x9,
     // Axyz, Rx = Ry AND Rz.
-    And,
+    And = 0xA,
     // Bxyz, Rx = Ry OR Rz.
-    Or,
+    Or = 0xB,
     // Cxyz, Rx = Ry XOR Rz.
-    Xor,
+    Xor = 0xC,
     // DxYZ, JUMP [YZ] IF Rx=R0.
-    Jump,
+    Jump = 0xD,
     // E000, HALT.
-    Halt,
-}
-
-// What the first digit of a word says: the Rust's Option<Opcode>.
-#[derive(Clone, Copy)]
-pub enum Decoded {
-    Known(Opcode),
-    Unknown,
+    Halt = 0xE,
 }
 
 // The fixed texts, a row for each opcode in the order of `Opcode::ALL`, filled up with spaces.
@@ -145,26 +138,27 @@ impl Opcode {
         Opcode::ALL
     }
 
-    // Decode the first hexadecimal digit of an instruction; the byte's high bits are masked off.
-    pub fn from_nibble(nibble: u8) -> Decoded
+    // Decode the first hexadecimal digit of an instruction; the byte's high bits are masked off. It can't fail, so it is
+    // no TryFrom; 01 ('Which shape goes where') names this match over the sixteen nibbles.
+    #[tactic(auto, unfolding(crate::specs::Opcode::decode_nibble, crate::specs::Opcode::digits))]
+    pub fn from_nibble(nibble: u8) -> Option<Opcode>
         ensures { result ≡ decode_nibble (nibble % 16) }
     {
-        let digit = nibble % 16;
-        match digit {
-            0x1 => Decoded::Known(Opcode::LoadImmediate),
-            0x2 => Decoded::Known(Opcode::LoadRegister),
-            0x3 => Decoded::Known(Opcode::LoadMemory),
-            0x4 => Decoded::Known(Opcode::StoreMemory),
-            0x6 => Decoded::Known(Opcode::Add),
-            0x7 => Decoded::Known(Opcode::Negate),
-            0x8 => Decoded::Known(Opcode::ShiftRight),
-            0x9 => Decoded::Known(Opcode::ShiftLeft),
-            0xA => Decoded::Known(Opcode::And),
-            0xB => Decoded::Known(Opcode::Or),
-            0xC => Decoded::Known(Opcode::Xor),
-            0xD => Decoded::Known(Opcode::Jump),
-            0xE => Decoded::Known(Opcode::Halt),
-            _ => Decoded::Unknown,
+        match nibble % 16 {
+            0x1 => Some(Opcode::LoadImmediate),
+            0x2 => Some(Opcode::LoadRegister),
+            0x3 => Some(Opcode::LoadMemory),
+            0x4 => Some(Opcode::StoreMemory),
+            0x6 => Some(Opcode::Add),
+            0x7 => Some(Opcode::Negate),
+            0x8 => Some(Opcode::ShiftRight),
+            0x9 => Some(Opcode::ShiftLeft),
+            0xA => Some(Opcode::And),
+            0xB => Some(Opcode::Or),
+            0xC => Some(Opcode::Xor),
+            0xD => Some(Opcode::Jump),
+            0xE => Some(Opcode::Halt),
+            _ => None,
         }
     }
 
@@ -172,21 +166,7 @@ impl Opcode {
     pub fn nibble(self) -> u8
         ensures { result ≡ nibble_of self }
     {
-        match self {
-            Opcode::LoadImmediate => 0x1,
-            Opcode::LoadRegister => 0x2,
-            Opcode::LoadMemory => 0x3,
-            Opcode::StoreMemory => 0x4,
-            Opcode::Add => 0x6,
-            Opcode::Negate => 0x7,
-            Opcode::ShiftRight => 0x8,
-            Opcode::ShiftLeft => 0x9,
-            Opcode::And => 0xA,
-            Opcode::Or => 0xB,
-            Opcode::Xor => 0xC,
-            Opcode::Jump => 0xD,
-            Opcode::Halt => 0xE,
-        }
+        self as u8
     }
 
     // The digits of a word that the opcode does not use, in their places, and 0 for all others.
@@ -194,23 +174,14 @@ impl Opcode {
         ensures { result ≡ unused_of self word }
     {
         match self {
-            Opcode::LoadImmediate => 0,
             Opcode::LoadRegister => word / 256 % 16 * 256,
-            Opcode::LoadMemory => 0,
-            Opcode::StoreMemory => 0,
-            Opcode::Add => 0,
             Opcode::Negate => word / 256 % 16 * 256 + word % 16,
-            Opcode::ShiftRight => 0,
-            Opcode::ShiftLeft => 0,
-            Opcode::And => 0,
-            Opcode::Or => 0,
-            Opcode::Xor => 0,
-            Opcode::Jump => 0,
             Opcode::Halt => word % 4096,
+            _ => 0,
         }
     }
 
-    // The place in `ALL`.
+    // The place in `ALL`. No discriminant: those are the digits, of which 5 is left out.
     fn index(self) -> usize
         ensures { (result ≡ index_of self) × (result < 13) }
     {
@@ -290,25 +261,18 @@ impl Opcode {
         ensures { result ≡ group_of self }
     {
         match self {
-            Opcode::LoadImmediate => InstructionGroup::DataTransfer,
-            Opcode::LoadRegister => InstructionGroup::DataTransfer,
-            Opcode::LoadMemory => InstructionGroup::DataTransfer,
-            Opcode::StoreMemory => InstructionGroup::DataTransfer,
-            Opcode::Add => InstructionGroup::ArithmeticLogic,
-            Opcode::Negate => InstructionGroup::ArithmeticLogic,
-            Opcode::ShiftRight => InstructionGroup::ArithmeticLogic,
-            Opcode::ShiftLeft => InstructionGroup::ArithmeticLogic,
-            Opcode::And => InstructionGroup::ArithmeticLogic,
-            Opcode::Or => InstructionGroup::ArithmeticLogic,
-            Opcode::Xor => InstructionGroup::ArithmeticLogic,
-            Opcode::Jump => InstructionGroup::Control,
-            Opcode::Halt => InstructionGroup::Control,
+            Opcode::LoadImmediate
+            | Opcode::LoadRegister
+            | Opcode::LoadMemory
+            | Opcode::StoreMemory => InstructionGroup::DataTransfer,
+            Opcode::Jump | Opcode::Halt => InstructionGroup::Control,
+            _ => InstructionGroup::ArithmeticLogic,
         }
     }
 }
 
 // The three groups of machine instruction.
-#[derive(Clone, Copy)]
+#[derive(Clone, Copy, Debug, PartialEq, Eq)]
 pub enum InstructionGroup {
     // Instructions that move data between memory and registers.
     DataTransfer,

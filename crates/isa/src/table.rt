@@ -26,6 +26,7 @@ const DIGIT_PAIRS: [u16; 256] = [
 ];
 
 // The entry in a column of the row that begins at index `start`.
+#[tactic(auto, unfolding(crate::specs::Format::entry_of))]
 fn in_row(pairs: [u16; 256], start: usize, column: u8) -> u16
     requires { (start + 16 ≤ 256) × (column < 16) }
     ensures { result ≡ entry_of pairs (start + column) }

@@ -1,14 +1,42 @@
 // Texts by value. Rattle has no strings, so a text is an array and the number of its live bytes.
 ghost use Rattle.std.specs.Prelude.{◌≡◌, ◌≤◌, min, length, take};
-ghost use Rattle.isa.specs.Text.{text, long_text, trimmed};
+ghost use Rattle.isa.specs.Text.{fixed_text, trimmed};
 
 use crate::TEXT_WIDTH;
 
-// The smaller of two lengths.
-pub fn least(a: usize, b: usize) -> usize
-    ensures { result ≡ min a b }
-{
-    if a < b { a } else { b }
+// A text of at most N bytes; the bytes past `len` are zero.
+#[derive(Clone, Copy)]
+pub struct FixedText<const N: usize> {
+    pub bytes: [u8; N],
+    pub len: u8,
+}
+
+// The texts, and the longer ones of the descriptions.
+pub type Text = FixedText<TEXT_WIDTH>;
+
+pub type LongText = FixedText<80>;
+
+impl<const N: usize> FixedText<N> {
+    // The first N bytes of `s`, of which a u8 counts 255 at most.
+    pub fn from_bytes(s: &[u8]) -> FixedText<N>
+        ensures { result ≡ fixed_text N (take (min N 255) s.now) }
+    {
+        let n = N.min(255).min(s.len());
+        let mut bytes = [0u8; N];
+        bytes[..n].copy_from_slice(&s[..n]);
+        FixedText {
+            bytes,
+            len: n as u8,
+        }
+    }
+
+    // The same without the spaces at the end of `s`.
+    pub fn from_field(s: &[u8]) -> FixedText<N>
+        ensures { result ≡ fixed_text N (take (min N 255) (trimmed s.now)) }
+    {
+        let n = live_length(s);
+        FixedText::from_bytes(&s[..n])
+    }
 }
 
 // The length of `s` without the spaces at its end.
@@ -16,80 +44,10 @@ fn live_length(s: &[u8]) -> usize
     ensures { (result ≤ length s.now) × (take result s.now ≡ trimmed s.now) }
 {
     let mut n = 0;
-    let mut i = 0;
-    while i < s.len() {
-        if s[i] != b' ' {
+    for (i, b) in s.iter().enumerate() {
+        if *b != b' ' {
             n = i + 1;
         }
-        i += 1;
     }
     n
-}
-
-// A text of at most 32 bytes; the bytes past `len` are zero.
-#[derive(Clone, Copy)]
-pub struct Text {
-    pub bytes: [u8; TEXT_WIDTH],
-    pub len: u8,
-}
-
-impl Text {
-    // The first 32 bytes of `s`.
-    pub fn from_bytes(s: &[u8]) -> Text
-        ensures { result ≡ text (take 32 s.now) }
-    {
-        let mut bytes = [0u8; TEXT_WIDTH];
-        let n = least(s.len(), TEXT_WIDTH);
-        let mut i = 0;
-        while i < n {
-            bytes[i] = s[i];
-            i += 1;
-        }
-        Text {
-            bytes,
-            len: i as u8,
-        }
-    }
-
-    // The first 32 bytes of `s` without the spaces at its end.
-    pub fn from_field(s: &[u8]) -> Text
-        ensures { result ≡ text (take 32 (trimmed s.now)) }
-    {
-        let n = live_length(s);
-        Text::from_bytes(&s[..n])
-    }
-}
-
-// A text of at most 80 bytes, for the descriptions; the bytes past `len` are zero.
-#[derive(Drop)]
-pub struct LongText {
-    pub bytes: [u8; 80],
-    pub len: u8,
-}
-
-impl LongText {
-    // The first 80 bytes of `s`.
-    pub fn from_bytes(s: &[u8]) -> LongText
-        ensures { result ≡ long_text (take 80 s.now) }
-    {
-        let mut bytes = [0u8; 80];
-        let n = least(s.len(), 80);
-        let mut i = 0;
-        while i < n {
-            bytes[i] = s[i];
-            i += 1;
-        }
-        LongText {
-            bytes,
-            len: i as u8,
-        }
-    }
-
-    // The first 80 bytes of `s` without the spaces at its end.
-    pub fn from_field(s: &[u8]) -> LongText
-        ensures { result ≡ long_text (take 80 (trimmed s.now)) }
-    {
-        let n = live_length(s);
-        LongText::from_bytes(&s[..n])
-    }
 }

@@ -1,5 +1,6 @@
 -- The laws of a line of the listing: labels, the text of a word, and columns.
 -- Assumes nothing.
+use Rattle.std.specs.Prelude.{None, Option, Some}
 use Prim.Native.Nat.{ℕ, zero, suc, ◌+◌, ◌-◌, ◌≤◌, ◌<◌}
 use Prim.Native.Char.{code}
 use native.Mathlib.Omega.{arith}
@@ -11,21 +12,20 @@ use lib.Dec.{eqb, ltb, lit≤}
 use lib.ListN.{length, get_or, take, set, replicate, length-append, length-replicate, length-set, get_or-replicate}
 use lib.Seq.{take_all, length-take-le, get_or-set_same, get_or-set_other}
 use Rattle.isa.specs.declared.opcode.Opcode.{Opcode}
-use Rattle.isa.specs.declared.opcode.Decoded.{Decoded}
-use Rattle.isa.specs.declared.opcode.Decoded.TheVariants.{Known, Unknown}
-use Rattle.isa.specs.declared.text.Text.{Text}
-use Rattle.isa.specs.Text.{ascii, spaced, text, text_of}
+use Rattle.isa.specs.Text.{Text}
+use Rattle.isa.specs.Text.{fixed_text, ascii, spaced, text, text_of}
 use Rattle.isa.specs.Word.{byte_yz, decode_word}
 use Rattle.isa.specs.Nibbles.{unused_of, unused, unused_nibbles}
 use Rattle.isa.specs.Format.{fill}
-use Rattle.isa.proofs.Texts.{text_of-text, take-replicate}
+use Rattle.isa.proofs.Texts.{text_of-text}
+use Rattle.std.proofs.lemmas.List.{take-replicate}
 use Rattle.isa.proofs.Fills.{length-fill}
 use Rattle.encoding.specs.Bytes.{over, written}
 use Rattle.encoding.proofs.Written.{over-over, writtens_eq}
 use Rattle.disasm.specs.Disassembly.{disassemble_text}
 use Rattle.disasm.proofs.Texts.{known-short}
 use Rattle.listing.specs.declared.labels.Reference.{Reference}
-use Rattle.listing.specs.declared.labels.Reference.TheVariants.{Loads, Stores, Jumps, None}
+use Rattle.listing.specs.declared.labels.Reference.TheVariants.{Loads, Stores, Jumps}
 use Rattle.listing.specs.Listing.{listing_words, reference_of, refers, refers_to, referenced, labelled, listed_as, other_by, other_text}
 use Rattle.listing.specs.Listing.{reference_text, listing_text, label_text, line_front, line_back, line, line_of}
 
@@ -81,17 +81,17 @@ module _ (t : List Bool) (xs : List ℕ) (w : ℕ) (h : Labels t xs) (l : length
 -- ---- the text of a word
 
 -- a word without a digit too many is listed as what it decodes to, and each other one as data
-pub listed_as_lem : (w : ℕ) (d : Decoded) → decode_word w ≡ d → unused_nibbles w ≡ 0 → listed_as w ≡ d
+pub listed_as_lem : (w : ℕ) (d : Option Opcode) → decode_word w ≡ d → unused_nibbles w ≡ 0 → listed_as w ≡ d
 listed_as_lem w d e u = rw u e
 
-pub listed_data : (w : ℕ) → (unused_nibbles w ≡ 0 → ⊥) → listed_as w ≡ Unknown
+pub listed_data : (w : ℕ) → (unused_nibbles w ≡ 0 → ⊥) → listed_as w ≡ None
 listed_data w u = rw (ne_eqb (unused_nibbles w) 0 u)
 
-pub listed_known : (w : ℕ) (o : Opcode) → listed_as w ≡ Known o → (decode_word w ≡ Known o) × (unused_of o w ≡ 0)
+pub listed_known : (w : ℕ) (o : Opcode) → listed_as w ≡ Some o → (decode_word w ≡ Some o) × (unused_of o w ≡ 0)
 listed_known w o e = go (eqb (unused_nibbles w) 0) refl e
   where
-    go : (v : Bool) → eqb (unused_nibbles w) 0 ≡ v → cond (not v) Unknown (decode_word w) ≡ Known o → (decode_word w ≡ Known o) × (unused_of o w ≡ 0)
-    go true q k = (k, ap (λ (d : Decoded). unused d w) (sym k) ∙ eqb-true (unused_nibbles w) 0 q)
+    go : (v : Bool) → eqb (unused_nibbles w) 0 ≡ v → cond (not v) None (decode_word w) ≡ Some o → (decode_word w ≡ Some o) × (unused_of o w ≡ 0)
+    go true q k = (k, ap (λ (d : Option Opcode). unused d w) (sym k) ∙ eqb-true (unused_nibbles w) 0 q)
     go false q k = let z : ◌≡◌ {A = ℕ} 0 1 = cc in absurd (omega arith)
 
 -- a text has at most 26 bytes, so its column holds it
@@ -99,17 +99,17 @@ other_short : (w : ℕ) → length (other_text w) ≤ 26
 unfolding other_text
 other_short w = go (listed_as w) refl
   where
-    go : (d : Decoded) → listed_as w ≡ d → length (other_by d w) ≤ 26
-    go Unknown e = rw length-fill (lit≤ tt)
-    go (Known o) e = let s : length (disassemble_text w) ≤ 18 = known-short w o (listed_known w o e).0 in omega arith
+    go : (d : Option Opcode) → listed_as w ≡ d → length (other_by d w) ≤ 26
+    go None e = rw length-fill (lit≤ tt)
+    go (Some o) e = let s : length (disassemble_text w) ≤ 18 = known-short w o (listed_known w o e).0 in omega arith
 
-reference_short : (b : Bool) (k : Reference) (w : ℕ) → length (reference_text b k w) ≤ 26
-reference_short true Loads w = rw length-fill (lit≤ tt)
-reference_short false Loads w = rw length-fill (lit≤ tt)
-reference_short true Stores w = rw length-fill (lit≤ tt)
-reference_short false Stores w = rw length-fill (lit≤ tt)
-reference_short true Jumps w = rw length-fill (lit≤ tt)
-reference_short false Jumps w = rw length-fill (lit≤ tt)
+reference_short : (b : Bool) (k : Option Reference) (w : ℕ) → length (reference_text b k w) ≤ 26
+reference_short true (Some Loads) w = rw length-fill (lit≤ tt)
+reference_short false (Some Loads) w = rw length-fill (lit≤ tt)
+reference_short true (Some Stores) w = rw length-fill (lit≤ tt)
+reference_short false (Some Stores) w = rw length-fill (lit≤ tt)
+reference_short true (Some Jumps) w = rw length-fill (lit≤ tt)
+reference_short false (Some Jumps) w = rw length-fill (lit≤ tt)
 reference_short b None w = other_short w
 
 pub listing_short : (n w : ℕ) → length (listing_text n w) ≤ 26
@@ -117,16 +117,16 @@ unfolding listing_text
 listing_short n w = reference_short (ltb (byte_yz w) n) (reference_of (decode_word w)) w
 
 -- the text, once it is known how the word refers to an address, and whether to one inside
-pub listed : (n w : ℕ) (b : Bool) (k : Reference) {r : Text} → ltb (byte_yz w) n ≡ b → reference_of (decode_word w) ≡ k
+pub listed : (n w : ℕ) (b : Bool) (k : Option Reference) {r : Text} → ltb (byte_yz w) n ≡ b → reference_of (decode_word w) ≡ k
     → r ≡ text (take 32 (reference_text b k w)) → r ≡ text (listing_text n w)
 unfolding listing_text
 listed n w b k e f g =
     let s : length (reference_text b k w) ≤ 26 = reference_short b k w in
     g ∙ ap text (take_all 32 (reference_text b k w) (omega arith)) ∙ (λ i. text (reference_text (sym e i) (sym f i) w))
 
-pub othered : (w : ℕ) (d : Decoded) {r : Text} → listed_as w ≡ d → r ≡ text (other_by d w) → r ≡ text (other_text w)
+pub othered : (w : ℕ) (d : Option Opcode) {r : Text} → listed_as w ≡ d → r ≡ text (other_by d w) → r ≡ text (other_text w)
 unfolding other_text
-othered w d e f = f ∙ ap (λ (c : Decoded). text (other_by c w)) (sym e)
+othered w d e f = f ∙ ap (λ (c : Option Opcode). text (other_by c w)) (sym e)
 
 -- of a word that refers to no address
 pub other_listed : (n w : ℕ) → reference_of (decode_word w) ≡ None → other_text w ≡ listing_text n w
@@ -158,7 +158,7 @@ length-spaced n xs h = simp (length-append, length-replicate) (omega arith)
 
 -- the length of a struct that holds xs
 pub text-length : (xs : List ℕ) {t : Text} → t ≡ text xs → t.len ≡ length xs
-unfolding text
+unfolding fixed_text
 text-length xs e = ap (λ (u : Text). u.len) e
 
 -- two columns one behind the other, from what the calls say of two texts

@@ -4,13 +4,14 @@ use Prim.Native.Nat.{ℕ, zero, suc, ◌+◌, ◌*◌, ◌/◌, ◌%◌, ◌≤�
 use Prim.Native.Char.{code}
 use native.Mathlib.Omega.{arith}
 use mathlib.Core.Bool.{Bool, true, false, cond}
+use Rattle.std.specs.Prelude.{Ok, Err}
 use mathlib.Core.Path.{◌≡◌, refl, ap, ◌∙◌}
 use mathlib.Core.List.{List, [], ◌∷◌, ◌++◌}
 use borrow.Author.Tests.{eqb-true, eq-eqb, ne_eqb, lt-ltb, le-ltb, le-leb, ltb-true, ltb-false}
 use lib.Dec.{eqb, ltb, lit≤}
 use lib.ListN.{length, take, drop, length-append}
 use lib.Seq.{length-take-le, take_at}
-use Rattle.isa.specs.declared.text.Text.{Text}
+use Rattle.isa.specs.Text.{Text}
 use Rattle.isa.specs.Text.{text, text_of}
 use Rattle.isa.specs.Format.{decimal}
 use Rattle.isa.proofs.Texts.{text_of-text}
@@ -18,9 +19,10 @@ use Rattle.encoding.specs.Bytes.{over, written, each_from, numbers, read_words}
 use Rattle.encoding.specs.Answer.{outcome, unless_refused}
 use Rattle.encoding.proofs.Written.{length_over, over-over, written-fits, overs_eq, length_each}
 use Rattle.encoding.proofs.Numbers.{length-numbers}
-use Rattle.listing.specs.declared.Listed.TheVariants.{Written, Refused}
+use Rattle.encoding.specs.declared.refusal.Refusal.TheVariants.{LongImage, ShortBuffer, InputLength}
 use Rattle.listing.specs.Listing.{listing_words, line_of, words_text, head_start, head_end, head_length, head_of, listing_of, listing_length}
-use Rattle.listing.specs.Listing.{told, listing_outcome, bytes_refusal, bytes_listing, bytes_outcome}
+use Rattle.encoding.specs.Refusal.{told}
+use Rattle.listing.specs.Listing.{listing_outcome, bytes_refusal, bytes_listing, bytes_outcome}
 use Rattle.listing.proofs.Lines.{text-length, length-line_of}
 
 -- ---- the head
@@ -160,28 +162,28 @@ listing_at_most n h =
 -- ---- the answers
 
 module _ (ws out : List ℕ) where
-  pub refused_1 : listing_words < length ws → outcome (told (Refused 1)) out ≡ listing_outcome ws out
+  pub refused_1 : listing_words < length ws → outcome (told (Err LongImage)) out ≡ listing_outcome ws out
   unfolding listing_outcome
   refused_1 h = simp (lt-ltb listing_words (length ws) h)
 
-  pub refused_5 : {size : ℕ} → length ws ≤ listing_words → size ≡ listing_length (length ws) → length out < size → outcome (told (Refused 5)) out ≡ listing_outcome ws out
+  pub refused_5 : {size : ℕ} → length ws ≤ listing_words → size ≡ listing_length (length ws) → length out < size → outcome (told (Err ShortBuffer)) out ≡ listing_outcome ws out
   unfolding listing_outcome
   refused_5 g e h = simp (le-ltb listing_words (length ws) g, lt-ltb (length out) (listing_length (length ws)) (rw e at h))
 
-  list_served : length ws ≤ listing_words → listing_length (length ws) ≤ length out → outcome (told (Written (listing_length (length ws)))) (over out 0 (listing_of ws)) ≡ listing_outcome ws out
+  list_served : length ws ≤ listing_words → listing_length (length ws) ≤ length out → outcome (told (Ok (listing_length (length ws)))) (over out 0 (listing_of ws)) ≡ listing_outcome ws out
   unfolding listing_outcome
   list_served g h = simp (le-ltb listing_words (length ws) g, le-ltb (length out) (listing_length (length ws)) h)
 
   -- the head, and the lines right behind it
   pub whole : {size at : ℕ} {o₁ o₂ : List ℕ} → length ws ≤ listing_words → size ≡ listing_length (length ws) → size ≤ length out
       → (at ≡ head_length (length ws)) × (o₁ ≡ over out 0 (head_of (length ws))) → o₂ ≡ over o₁ at (each_from (line_of ws) 0 (length ws))
-      → outcome (told (Written size)) o₂ ≡ listing_outcome ws out
+      → outcome (told (Ok size)) o₂ ≡ listing_outcome ws out
   unfolding listing_of
   whole {size} {at} {o₁} {o₂} g e h c₁ c₂ =
       let l : length (head_of (length ws)) ≡ head_length (length ws) = length_head (length ws) in
       let p : o₂ ≡ over out 0 (head_of (length ws) ++ each_from (line_of ws) 0 (length ws)) =
       c₂ ∙ rw c₁.1 (over-over out 0 (head_of (length ws)) (each_from (line_of ws) 0 (length ws)) at (omega (arith, c₁.0)) (omega (arith, c₁.0))) in
-      (λ i. outcome (told (Written (e i))) (p i)) ∙ list_served g (omega arith)
+      (λ i. outcome (told (Ok (e i))) (p i)) ∙ list_served g (omega arith)
 
 -- ---- words in bytes
 
@@ -197,15 +199,15 @@ pub part_back : (n : ℕ) (zs ws : List ℕ) → length ws ≡ n → take n (ws 
 part_back n zs ws e = take_at ws (drop n zs) n e
 
 module _ (image out : List ℕ) where
-  pub bytes_1 : listing_words < length image / 2 → outcome (told (Refused 1)) out ≡ bytes_outcome image out
+  pub bytes_1 : listing_words < length image / 2 → outcome (told (Err LongImage)) out ≡ bytes_outcome image out
   unfolding bytes_outcome
   bytes_1 h = simp (lt-ltb listing_words (length image / 2) h)
 
-  pub bytes_5 : {size : ℕ} → length image / 2 ≤ listing_words → size ≡ listing_length (length image / 2) → length out < size → outcome (told (Refused 5)) out ≡ bytes_outcome image out
+  pub bytes_5 : {size : ℕ} → length image / 2 ≤ listing_words → size ≡ listing_length (length image / 2) → length out < size → outcome (told (Err ShortBuffer)) out ≡ bytes_outcome image out
   unfolding bytes_outcome
   bytes_5 g e h = simp (le-ltb listing_words (length image / 2) g, lt-ltb (length out) (listing_length (length image / 2)) (rw e at h))
 
-  pub bytes_6 : {size : ℕ} → length image / 2 ≤ listing_words → size ≡ listing_length (length image / 2) → size ≤ length out → (length image % 2 ≡ 0 → ⊥) → outcome (told (Refused 6)) out ≡ bytes_outcome image out
+  pub bytes_6 : {size : ℕ} → length image / 2 ≤ listing_words → size ≡ listing_length (length image / 2) → size ≤ length out → (length image % 2 ≡ 0 → ⊥) → outcome (told (Err InputLength)) out ≡ bytes_outcome image out
   unfolding bytes_outcome
   bytes_6 g e h k = simp (le-ltb listing_words (length image / 2) g, le-ltb (length out) (listing_length (length image / 2)) (rw e at h), ne_eqb (length image % 2) 0 k)
 
@@ -222,7 +224,7 @@ length-bytes image = length_listing (numbers 2 (length image / 2) image) ∙ ap 
 
 -- what is told of words in bytes: the refusal's number, and a length that is at most that of the longest
 module _ (image out : List ℕ) where
-  told-refusal : (n k : ℕ) (o : List ℕ) → (unless_refused n out (outcome (told (Written k)) o)).answer.refused ≡ n
+  told-refusal : (n k : ℕ) (o : List ℕ) → (unless_refused n out (outcome (told (Ok k)) o)).answer.refused ≡ n
   told-refusal zero k o = refl
   told-refusal (suc n) k o = refl
 
@@ -231,7 +233,7 @@ module _ (image out : List ℕ) where
   bytes-refused = told-refusal (bytes_refusal (length image) (length out)) (listing_length (length image / 2)) (over out 0 (bytes_listing image))
 
   at_most : (a b e : Bool) → ltb listing_words (length image / 2) ≡ a
-      → (unless_refused (cond (eqb (cond a 1 (cond b 5 0)) 0) (cond e 0 6) (cond a 1 (cond b 5 0))) out (outcome (told (Written (listing_length (length image / 2)))) (over out 0 (bytes_listing image)))).answer.length ≤ 11709
+      → (unless_refused (cond (eqb (cond a 1 (cond b 5 0)) 0) (cond e 0 6) (cond a 1 (cond b 5 0))) out (outcome (told (Ok (listing_length (length image / 2)))) (over out 0 (bytes_listing image)))).answer.length ≤ 11709
   at_most true b e q = lit≤ tt
   at_most false true e q = lit≤ tt
   at_most false false false q = lit≤ tt

@@ -1,51 +1,43 @@
 -- The listing of a program image (01, section 7; disasm.rs, `disassemble_image`; 02, Change 4): a head, then a line of 45 bytes for each word.
 -- Assumes nothing.
-use Rattle.std.specs.Prelude.{ℕ, ◌+◌, ◌*◌, ◌/◌, ◌%◌, Bool, true, false, cond, List, [], ◌∷◌, ◌++◌, eqb, ltb, length, get_or}
+use Rattle.std.specs.Prelude.{ℕ, ◌+◌, ◌*◌, ◌/◌, ◌%◌, Bool, true, false, cond, List, [], ◌∷◌, ◌++◌, eqb, ltb, length, get_or, None, Option, Some, Ok, is_some}
+use Rattle.isa.specs.declared.opcode.Opcode.{Opcode}
 use Rattle.isa.specs.declared.opcode.Opcode.TheVariants.{LoadImmediate, LoadRegister, LoadMemory, StoreMemory, Add, Negate}
 use Rattle.isa.specs.declared.opcode.Opcode.TheVariants.{ShiftRight, ShiftLeft, And, Or, Xor, Jump, Halt}
-use Rattle.isa.specs.declared.opcode.Decoded.{Decoded}
-use Rattle.isa.specs.declared.opcode.Decoded.TheVariants.{Known, Unknown}
 use Rattle.isa.specs.Text.{ascii, spaced}
 use Rattle.isa.specs.Word.{byte_yz, decode_word}
 use Rattle.isa.specs.Nibbles.{loose}
 use Rattle.isa.specs.Format.{fill, decimal}
 use Rattle.encoding.specs.Bytes.{over, each_from, numbers}
 use Rattle.encoding.specs.Answer.{Outcome, outcome, Told, unless_refused}
+use Rattle.encoding.specs.Refusal.{told}
 use Rattle.disasm.specs.Disassembly.{disassemble_text}
 use Rattle.listing.specs.declared.labels.Reference.{Reference}
-use Rattle.listing.specs.declared.labels.Reference.TheVariants.{Loads, Stores, Jumps, None}
-use Rattle.listing.specs.declared.Listed.{Listed}
-use Rattle.listing.specs.declared.Listed.TheVariants.{Written, Refused}
+use Rattle.listing.specs.declared.labels.Reference.TheVariants.{Loads, Stores, Jumps}
 
 -- the words of an image that has a listing are at most 256 (01, section 1), since its addresses have two digits: not by the size of memory
 abbrev pub listing_words : ℕ
 listing_words = 256
 
 -- LOAD from memory, STORE and JUMP refer to the address yz
-abbrev pub reference_of : Decoded → Reference
-reference_of (Known LoadImmediate) = None
-reference_of (Known LoadRegister) = None
-reference_of (Known LoadMemory) = Loads
-reference_of (Known StoreMemory) = Stores
-reference_of (Known Add) = None
-reference_of (Known Negate) = None
-reference_of (Known ShiftRight) = None
-reference_of (Known ShiftLeft) = None
-reference_of (Known And) = None
-reference_of (Known Or) = None
-reference_of (Known Xor) = None
-reference_of (Known Jump) = Jumps
-reference_of (Known Halt) = None
-reference_of Unknown = None
+abbrev pub reference_of : Option Opcode → Option Reference
+reference_of (Some LoadImmediate) = None
+reference_of (Some LoadRegister) = None
+reference_of (Some LoadMemory) = Some Loads
+reference_of (Some StoreMemory) = Some Stores
+reference_of (Some Add) = None
+reference_of (Some Negate) = None
+reference_of (Some ShiftRight) = None
+reference_of (Some ShiftLeft) = None
+reference_of (Some And) = None
+reference_of (Some Or) = None
+reference_of (Some Xor) = None
+reference_of (Some Jump) = Some Jumps
+reference_of (Some Halt) = None
+reference_of None = None
 
-abbrev pub is_reference : Reference → Bool
-is_reference Loads = true
-is_reference Stores = true
-is_reference Jumps = true
-is_reference None = false
-
-abbrev pub refers : Decoded → Bool
-refers d = is_reference (reference_of d)
+abbrev pub refers : Option Opcode → Bool
+refers d = is_some (reference_of d)
 
 -- the word w refers to address a
 abbrev pub refers_to : ℕ → ℕ → Bool
@@ -61,22 +53,22 @@ unfoldable pub labelled : List ℕ → ℕ → Bool
 labelled ws a = cond (eqb a 0) true (referenced ws a)
 
 -- what a word is listed as: a loose one is data, as one without an opcode is (02, Change 4)
-abbrev pub listed_as : ℕ → Decoded
-listed_as w = cond (loose w) Unknown (decode_word w)
+abbrev pub listed_as : ℕ → Option Opcode
+listed_as w = cond (loose w) None (decode_word w)
 
 -- the text of a word that refers to no address: data, or its disassembly as it is
-abbrev pub other_by : Decoded → ℕ → List ℕ
-other_by Unknown w = fill w (ascii ".word Wxyz")
-other_by (Known o) w = disassemble_text w
+abbrev pub other_by : Option Opcode → ℕ → List ℕ
+other_by None w = fill w (ascii ".word Wxyz")
+other_by (Some o) w = disassemble_text w
 
 unfoldable pub other_text : ℕ → List ℕ
 other_text w = other_by (listed_as w) w
 
 -- the text of a word, by how it refers to an address: a reference inside the image is a label
-abbrev pub reference_text : Bool → Reference → ℕ → List ℕ
-reference_text inside Loads w = fill w (ascii (cond inside "LOAD  Rx, [Lyz]" "LOAD  Rx, [yz]"))
-reference_text inside Stores w = fill w (ascii (cond inside "STORE Rx, [Lyz]" "STORE Rx, [yz]"))
-reference_text inside Jumps w = fill w (ascii (cond inside "JUMP  [Lyz] IF Rx=R0" "JUMP  [yz] IF Rx=R0"))
+abbrev pub reference_text : Bool → Option Reference → ℕ → List ℕ
+reference_text inside (Some Loads) w = fill w (ascii (cond inside "LOAD  Rx, [Lyz]" "LOAD  Rx, [yz]"))
+reference_text inside (Some Stores) w = fill w (ascii (cond inside "STORE Rx, [Lyz]" "STORE Rx, [yz]"))
+reference_text inside (Some Jumps) w = fill w (ascii (cond inside "JUMP  [Lyz] IF Rx=R0" "JUMP  [yz] IF Rx=R0"))
 reference_text inside None w = other_text w
 
 -- the same in an image of n words
@@ -123,11 +115,6 @@ head_length n = cond (eqb n 1) 186 (cond (ltb n 10) 187 (cond (ltb n 100) 188 18
 abbrev pub listing_length : ℕ → ℕ
 listing_length n = head_length n + 45 * n
 
--- what a call answers by 01's number (its last paragraph)
-abbrev pub told : Listed → Told
-told (Written n) = record { refused = 0; length = n }
-told (Refused n) = record { refused = n; length = 0 }
-
 -- refused 1: more words than a listing has; 5: the buffer is shorter than the listing (01, section 1)
 abbrev pub listing_refusal : ℕ → ℕ → ℕ
 listing_refusal n room = cond (ltb listing_words n) 1 (cond (ltb room (listing_length n)) 5 0)
@@ -136,7 +123,7 @@ listing_refusal n room = cond (ltb listing_words n) 1 (cond (ltb room (listing_l
 unfoldable pub listing_outcome : List ℕ → List ℕ → Outcome Told
 listing_outcome ws out =
     unless_refused (listing_refusal (length ws) (length out)) out
-    (outcome (told (Written (listing_length (length ws)))) (over out 0 (listing_of ws)))
+    (outcome (told (Ok (listing_length (length ws)))) (over out 0 (listing_of ws)))
 
 -- the listing of words in bytes, high byte first: refused 1 by whole words, then 5, then 6 for an odd byte
 abbrev pub bytes_refusal : ℕ → ℕ → ℕ
@@ -148,4 +135,4 @@ bytes_listing image = listing_of (numbers 2 (length image / 2) image)
 unfoldable pub bytes_outcome : List ℕ → List ℕ → Outcome Told
 bytes_outcome image out =
     unless_refused (bytes_refusal (length image) (length out)) out
-    (outcome (told (Written (listing_length (length image / 2)))) (over out 0 (bytes_listing image)))
+    (outcome (told (Ok (listing_length (length image / 2)))) (over out 0 (bytes_listing image)))

@@ -1,12 +1,13 @@
 // The calls: the listing of words, and of words in bytes, in a lent buffer.
 ghost use Rattle.std.specs.Prelude.{◌≡◌, ◌≤◌};
 ghost use Rattle.encoding.specs.Answer.{outcome};
-ghost use Rattle.listing.specs.Listing.{listing_words, listing_length, told, listing_outcome, bytes_outcome};
+ghost use Rattle.encoding.specs.Refusal.{told};
+ghost use Rattle.listing.specs.Listing.{listing_words, listing_length, listing_outcome, bytes_outcome};
 
+use crate::LISTING_WORDS;
 use crate::head::put_head;
 use crate::line::put_lines;
-use crate::{LISTING_WORDS, Listed};
-use encoding::get_words;
+use encoding::{Refusal, get_words};
 
 // How long the listing of `n` words is.
 fn listing_length(n: usize) -> usize
@@ -27,35 +28,35 @@ fn listing_length(n: usize) -> usize
 
 // Disassemble a whole program image into a lent buffer. Refused 1 over LISTING_WORDS, 5 where the
 // buffer is shorter than the listing; bytes past the listing are kept.
-pub fn disassemble_image(words: &[u16], out: &mut [u8]) -> Listed
+pub fn disassemble_image(words: &[u16], out: &mut [u8]) -> Result<usize, Refusal>
     ensures { outcome (told result) out.new ≡ listing_outcome words.now out.old }
 {
     let n = words.len();
     if LISTING_WORDS < n {
-        return Listed::Refused(1);
+        return Err(Refusal::LongImage);
     }
     let size = listing_length(n);
     if out.len() < size {
-        return Listed::Refused(5);
+        return Err(Refusal::ShortBuffer);
     }
     let at = put_head(out, n);
     put_lines(out, at, words);
-    Listed::Written(size)
+    Ok(size)
 }
 
 // The same for words in bytes, high byte first. An odd byte is refused 6.
-pub fn list_bytes(image: &[u8], out: &mut [u8]) -> Listed
+pub fn list_bytes(image: &[u8], out: &mut [u8]) -> Result<usize, Refusal>
     ensures { outcome (told result) out.new ≡ bytes_outcome image.now out.old }
 {
     let n = image.len() / 2;
     if LISTING_WORDS < n {
-        return Listed::Refused(1);
+        return Err(Refusal::LongImage);
     }
     if out.len() < listing_length(n) {
-        return Listed::Refused(5);
+        return Err(Refusal::ShortBuffer);
     }
     if image.len() % 2 != 0 {
-        return Listed::Refused(6);
+        return Err(Refusal::InputLength);
     }
     let mut words = [0u16; LISTING_WORDS];
     get_words(image, 0, &mut words[..n]);

@@ -2,53 +2,28 @@
 ghost use Rattle.std.specs.Prelude.{◌≡◌, true, false, cond, ℕ, ◌<◌, length, get_or, set};
 ghost use Rattle.isa.specs.Text.{text};
 ghost use Rattle.isa.specs.Word.{byte_yz, decode_word};
-ghost use Rattle.listing.specs.Listing.{listing_words, reference_of, is_reference, refers, labelled, label_text};
+ghost use Rattle.listing.specs.Listing.{listing_words, reference_of, refers, labelled, label_text};
 
 use crate::LISTING_WORDS;
-use isa::{Decoded, Instruction, Opcode, Text, format};
+use isa::{Instruction, Opcode, Text, format};
 
-// How an instruction refers to the address in its last two digits, if it does.
-#[derive(Drop)]
+// How an instruction refers to the address in its last two digits.
+#[derive(Clone, Copy, Debug, PartialEq, Eq)]
 pub enum Reference {
     Loads,
     Stores,
     Jumps,
-    None,
 }
 
-// By what its word decodes to.
-pub(crate) fn reference_of(decoded: Decoded) -> Reference
+// By what its word decodes to, if it does.
+pub(crate) fn reference_of(decoded: Option<Opcode>) -> Option<Reference>
     ensures { result ≡ reference_of decoded }
 {
-    let Decoded::Known(opcode) = decoded else {
-        return Reference::None;
-    };
-    match opcode {
-        Opcode::LoadImmediate => Reference::None,
-        Opcode::LoadRegister => Reference::None,
-        Opcode::LoadMemory => Reference::Loads,
-        Opcode::StoreMemory => Reference::Stores,
-        Opcode::Add => Reference::None,
-        Opcode::Negate => Reference::None,
-        Opcode::ShiftRight => Reference::None,
-        Opcode::ShiftLeft => Reference::None,
-        Opcode::And => Reference::None,
-        Opcode::Or => Reference::None,
-        Opcode::Xor => Reference::None,
-        Opcode::Jump => Reference::Jumps,
-        Opcode::Halt => Reference::None,
-    }
-}
-
-// Whether it does.
-fn is_reference(reference: Reference) -> bool
-    ensures { result ≡ is_reference reference }
-{
-    match reference {
-        Reference::Loads => true,
-        Reference::Stores => true,
-        Reference::Jumps => true,
-        Reference::None => false,
+    match decoded? {
+        Opcode::LoadMemory => Some(Reference::Loads),
+        Opcode::StoreMemory => Some(Reference::Stores),
+        Opcode::Jump => Some(Reference::Jumps),
+        _ => None,
     }
 }
 
@@ -58,9 +33,8 @@ fn note(table: &mut [bool; LISTING_WORDS], word: u16)
     ensures { table.new ≡ cond (refers (decode_word word)) (set table.old (byte_yz word) true) table.old }
 {
     let i = Instruction::from_word(word);
-    if is_reference(reference_of(i.opcode())) {
-        let address = i.yz() as usize;
-        table[address] = true;
+    if reference_of(i.opcode()).is_some() {
+        table[i.yz() as usize] = true;
     }
 }
 
@@ -70,10 +44,8 @@ pub(crate) fn labels(words: &[u16]) -> [bool; LISTING_WORDS]
 {
     let mut table = [false; LISTING_WORDS];
     table[0] = true;
-    let mut i = 0;
-    while i < words.len() {
-        note(&mut table, words[i]);
-        i += 1;
+    for &word in words {
+        note(&mut table, word);
     }
     table
 }

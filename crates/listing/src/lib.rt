@@ -10,10 +10,3 @@ pub use calls::{disassemble_image, list_bytes};
 
 // The words that a listing has at most: its addresses are two digits, whatever memory holds.
 pub const LISTING_WORDS: usize = 256;
-
-// What a listing call answers: the listing's length, or the number of the refusal.
-#[derive(Drop)]
-pub enum Listed {
-    Written(usize),
-    Refused(u8),
-}

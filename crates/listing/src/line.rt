@@ -7,20 +7,17 @@ ghost use Rattle.listing.specs.Listing.{listing_words, listing_text, other_text,
 use crate::labels::{Reference, label_text, labels, reference_of};
 use disasm::disassemble;
 use encoding::put_bytes;
-use isa::{Decoded, Instruction, Text, digits_of, format};
+use isa::{Instruction, Text, digits_of, format};
 
 // The text of a word that refers to no address. A loose word is data: its instruction alone would be
 // assembled to another word.
 fn other_text(word: u16) -> Text
     ensures { result ≡ text (other_text word) }
 {
-    let Decoded::Known(opcode) = Instruction::from_word(word).opcode() else {
-        return format(b".word Wxyz", word);
-    };
-    if opcode.unused(word) != 0 {
-        return format(b".word Wxyz", word);
+    match Instruction::from_word(word).opcode() {
+        Some(opcode) if opcode.unused(word) == 0 => disassemble(word),
+        _ => format(b".word Wxyz", word),
     }
-    disassemble(word)
 }
 
 // The text of a word in an image of `count` words.
@@ -29,7 +26,9 @@ fn listing_text(word: u16, count: usize) -> Text
 {
     let i = Instruction::from_word(word);
     let inside = (i.yz() as usize) < count;
-    let reference = reference_of(i.opcode());
+    let Some(reference) = reference_of(i.opcode()) else {
+        return other_text(word);
+    };
     match reference {
         Reference::Loads => {
             if inside {
@@ -52,7 +51,6 @@ fn listing_text(word: u16, count: usize) -> Text
                 format(b"JUMP  [yz] IF Rx=R0", word)
             }
         }
-        Reference::None => other_text(word),
     }
 }
 
@@ -87,12 +85,8 @@ fn put_back(out: &mut [u8], at: usize, address: u8, word: u16)
     let place = digits_of(address as u16);
     let digits = digits_of(word);
     let mut back = *b"; yz  Wxyz\n";
-    back[2] = place[2];
-    back[3] = place[3];
-    back[6] = digits[0];
-    back[7] = digits[1];
-    back[8] = digits[2];
-    back[9] = digits[3];
+    back[2..4].copy_from_slice(&place[2..]);
+    back[6..10].copy_from_slice(&digits);
     put_bytes(out, at, &back);
 }
 
@@ -102,10 +96,8 @@ pub(crate) fn put_lines(out: &mut [u8], at: usize, words: &[u16])
     ensures { out.new ≡ over out.old at (each_from (line_of words.now) 0 (length words.now)) }
 {
     let table = labels(words);
-    let mut i = 0;
-    while i < words.len() {
-        put_line(out, at + 45 * i, words.len(), table[i], i as u8, words[i]);
-        i += 1;
+    for (i, &word) in words.iter().enumerate() {
+        put_line(out, at + 45 * i, words.len(), table[i], i as u8, word);
     }
 }
 

@@ -1,14 +1,14 @@
 -- The marks of an instruction in one form.
 -- Assumes nothing.
-use Prim.Native.Nat.{ℕ, ◌<◌}
+use Rattle.std.specs.Prelude.{None, Option, Some}
+use Rattle.isa.specs.declared.opcode.Opcode.{Opcode}
+use Prim.Native.Nat.{ℕ}
 use mathlib.Core.Path.{◌≡◌, refl, ap, sym, ◌∙◌}
 use mathlib.Core.Bool.{Bool, true, false, cond}
 use mathlib.Core.List.{List}
 use lib.ListN.{get_or, set}
 use lib.Seq.{set-get_or, set-set}
 use Rattle.isa.specs.declared.opcode.Opcode.TheVariants.{LoadImmediate, LoadRegister, LoadMemory, StoreMemory, Add, Negate, ShiftRight, ShiftLeft, And, Or, Xor, Jump, Halt}
-use Rattle.isa.specs.declared.opcode.Decoded.{Decoded}
-use Rattle.isa.specs.declared.opcode.Decoded.TheVariants.{Known, Unknown}
 use Rattle.isa.specs.Word.{decode_word, digit_x, digit_y, digit_z}
 use Rattle.control.specs.Address.{reached_address}
 use Rattle.marks.specs.declared.Moved.{Moved}
@@ -23,7 +23,7 @@ module _ (w : ℕ) (m r : List ℕ) where
   abbrev start : Marks
   start = record { memory = m; registers = r; mdr = 0 }
 
-  abbrev move_of : Decoded → Moved
+  abbrev move_of : Option Opcode → Moved
   move_of d = moves d w (get_or r (digit_x w) 0) (get_or r (digit_y w) 0) (get_or r (digit_z w) 0) (joined_yz w start) (get_or m (reached_address w) 0)
 
   -- the word keeps its mark
@@ -38,24 +38,24 @@ module _ (w : ℕ) (m r : List ℕ) where
   opened true n = sym (set-set r (digit_x w) n 0)
   opened false n = refl
 
-  executed : (d : Decoded) → executed_marks d w start ≡ marked_by w (reached_address w) (cond (move_of d).to_y (digit_y w) (digit_x w)) (move_of d) m r
-  executed (Known LoadImmediate) = kept 0 refl
-  executed (Known LoadRegister) = kept 0 refl
-  executed (Known LoadMemory) = kept (get_or m (reached_address w) 0) refl
-  executed (Known StoreMemory) = λ k. record { memory = set m (reached_address w) (get_or r (digit_x w) 0); registers = still k; mdr = get_or r (digit_x w) 0 }
-  executed (Known Add) = kept 0 refl
-  executed (Known Negate) = kept 0 refl
-  executed (Known ShiftRight) = kept 0 (opened (shifts_out w) (get_or r (digit_x w) 0))
-  executed (Known ShiftLeft) = kept 0 (opened (shifts_out w) (get_or r (digit_x w) 0))
-  executed (Known And) = kept 0 refl
-  executed (Known Or) = kept 0 refl
-  executed (Known Xor) = kept 0 (opened (same_sources w) (joined_yz w start))
-  executed (Known Jump) = kept 0 still
-  executed (Known Halt) = kept 0 still
-  executed Unknown = kept 0 still
+  executed : (d : Option Opcode) → executed_marks d w start ≡ marked_by w (reached_address w) (cond (move_of d).to_y (digit_y w) (digit_x w)) (move_of d) m r
+  executed (Some LoadImmediate) = kept 0 refl
+  executed (Some LoadRegister) = kept 0 refl
+  executed (Some LoadMemory) = kept (get_or m (reached_address w) 0) refl
+  executed (Some StoreMemory) = λ k. record { memory = set m (reached_address w) (get_or r (digit_x w) 0); registers = still k; mdr = get_or r (digit_x w) 0 }
+  executed (Some Add) = kept 0 refl
+  executed (Some Negate) = kept 0 refl
+  executed (Some ShiftRight) = kept 0 (opened (shifts_out w) (get_or r (digit_x w) 0))
+  executed (Some ShiftLeft) = kept 0 (opened (shifts_out w) (get_or r (digit_x w) 0))
+  executed (Some And) = kept 0 refl
+  executed (Some Or) = kept 0 refl
+  executed (Some Xor) = kept 0 (opened (same_sources w) (joined_yz w start))
+  executed (Some Jump) = kept 0 still
+  executed (Some Halt) = kept 0 still
+  executed None = kept 0 still
 
   -- by what the code finds: the word's address, the marks joined, what moves, the register, the registers' marks at the end
-  pub marks_moved : (d : Decoded) {a j i : ℕ} {v : Moved} {s : List ℕ} → a ≡ reached_address w → j ≡ joined_yz w start
+  pub marks_moved : (d : Option Opcode) {a j i : ℕ} {v : Moved} {s : List ℕ} → a ≡ reached_address w → j ≡ joined_yz w start
       → v ≡ moves d w (get_or r (digit_x w) 0) (get_or r (digit_y w) 0) (get_or r (digit_z w) 0) j (get_or m a 0) → i ≡ cond v.to_y (digit_y w) (digit_x w)
       → s ≡ opened_x v.cleared w (set r i v.register)
       → record { memory = set m a v.word; registers = s; mdr = v.mdr } ≡ executed_marks d w start
@@ -70,7 +70,3 @@ module _ (w : ℕ) (m r : List ℕ) where
 pub fetch_opens : (w : ℕ) (p q : Marks) → mdr_marked 0 p ≡ mdr_marked 0 q → instruction_marks w p ≡ instruction_marks w q
 unfolding instruction_marks
 fetch_opens w p q e = ap (executed_marks (decode_word w) w) e
-
-pub pick_below : (second : Bool) (n : ℕ) {a b : ℕ} → a < n → b < n → cond second b a < n
-pick_below true n p q = q
-pick_below false n p q = p

@@ -1,9 +1,8 @@
 -- Marks (01, section 5; 02, Changes 2 and 7): the owners of each word of memory, of each register and of MDR, and how an instruction moves them.
 -- Assumes nothing.
-use Rattle.std.specs.Prelude.{ℕ, Bool, cond, List, eqb, leb, get_or, set}
+use Rattle.std.specs.Prelude.{ℕ, Bool, cond, List, eqb, leb, get_or, set, None, Option, Some}
+use Rattle.isa.specs.declared.opcode.Opcode.{Opcode}
 use Rattle.isa.specs.declared.opcode.Opcode.TheVariants.{LoadImmediate, LoadRegister, LoadMemory, StoreMemory, Add, Negate, ShiftRight, ShiftLeft, And, Or, Xor, Jump, Halt}
-use Rattle.isa.specs.declared.opcode.Decoded.{Decoded}
-use Rattle.isa.specs.declared.opcode.Decoded.TheVariants.{Known, Unknown}
 use Rattle.isa.specs.Word.{decode_word, digit_x, digit_y, digit_z, byte_yz}
 use Rattle.control.specs.Address.{reached_address}
 use Rattle.marks.specs.Owners.{joined}
@@ -50,21 +49,21 @@ abbrev pub shifts_out : ℕ → Bool
 shifts_out w = leb 16 (byte_yz w)
 
 -- what the instruction w does to the marks once its fetch has left MDR with none; to keep a mark is to set it to itself
-abbrev pub executed_marks : Decoded → ℕ → Marks → Marks
-executed_marks (Known LoadImmediate) w k = register_marked (digit_x w) 0 k
-executed_marks (Known LoadRegister) w k = register_marked (digit_y w) (register_mark (digit_z w) k) k
-executed_marks (Known LoadMemory) w k = let n = word_mark (reached_address w) k in register_marked (digit_x w) n (mdr_marked n k)
-executed_marks (Known StoreMemory) w k = let n = register_mark (digit_x w) k in word_marked (reached_address w) n (mdr_marked n k)
-executed_marks (Known Add) w k = register_marked (digit_x w) (joined_yz w k) k
-executed_marks (Known Negate) w k = register_marked (digit_y w) (register_mark (digit_y w) k) k
-executed_marks (Known ShiftRight) w k = register_marked (digit_x w) (cond (shifts_out w) 0 (register_mark (digit_x w) k)) k
-executed_marks (Known ShiftLeft) w k = register_marked (digit_x w) (cond (shifts_out w) 0 (register_mark (digit_x w) k)) k
-executed_marks (Known And) w k = register_marked (digit_x w) (joined_yz w k) k
-executed_marks (Known Or) w k = register_marked (digit_x w) (joined_yz w k) k
-executed_marks (Known Xor) w k = register_marked (digit_x w) (cond (same_sources w) 0 (joined_yz w k)) k
-executed_marks (Known Jump) w k = k
-executed_marks (Known Halt) w k = k
-executed_marks Unknown w k = k
+abbrev pub executed_marks : Option Opcode → ℕ → Marks → Marks
+executed_marks (Some LoadImmediate) w k = register_marked (digit_x w) 0 k
+executed_marks (Some LoadRegister) w k = register_marked (digit_y w) (register_mark (digit_z w) k) k
+executed_marks (Some LoadMemory) w k = let n = word_mark (reached_address w) k in register_marked (digit_x w) n (mdr_marked n k)
+executed_marks (Some StoreMemory) w k = let n = register_mark (digit_x w) k in word_marked (reached_address w) n (mdr_marked n k)
+executed_marks (Some Add) w k = register_marked (digit_x w) (joined_yz w k) k
+executed_marks (Some Negate) w k = register_marked (digit_y w) (register_mark (digit_y w) k) k
+executed_marks (Some ShiftRight) w k = register_marked (digit_x w) (cond (shifts_out w) 0 (register_mark (digit_x w) k)) k
+executed_marks (Some ShiftLeft) w k = register_marked (digit_x w) (cond (shifts_out w) 0 (register_mark (digit_x w) k)) k
+executed_marks (Some And) w k = register_marked (digit_x w) (joined_yz w k) k
+executed_marks (Some Or) w k = register_marked (digit_x w) (joined_yz w k) k
+executed_marks (Some Xor) w k = register_marked (digit_x w) (cond (same_sources w) 0 (joined_yz w k)) k
+executed_marks (Some Jump) w k = k
+executed_marks (Some Halt) w k = k
+executed_marks None w k = k
 
 -- the marks after a whole instruction
 unfoldable pub instruction_marks : ℕ → Marks → Marks

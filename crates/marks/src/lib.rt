@@ -2,7 +2,7 @@
 // A mark is a byte of eight owners; 0 is open.
 #![tactic(auto)]
 
-ghost use Rattle.std.specs.Prelude.{◌≡◌, cond};
+ghost use Rattle.std.specs.Prelude.{◌≡◌};
 ghost use Rattle.isa.specs.Word.{decode_word};
 ghost use Rattle.marks.specs.Owners.{joined, hidden_from};
 ghost use Rattle.marks.specs.Marks.{marks_of, shown, same_sources, shifts_out, executed_marks, instruction_marks};
@@ -10,7 +10,7 @@ ghost use Rattle.marks.specs.Total.{hidden, hidden_count};
 ghost use Rattle.marks.specs.Forms.{one_mark, clearing, all_marks, moves, opened_x, retotalled, total_by};
 
 use control::reached_address;
-use isa::{Decoded, Instruction, MEMORY_WORDS, Opcode, REGISTER_COUNT, WORD_BITS};
+use isa::{Instruction, MEMORY_WORDS, Opcode, REGISTER_COUNT, WORD_BITS};
 
 #[derive(Drop)]
 pub struct Marks {
@@ -36,6 +36,7 @@ pub const EVERYONE: u8 = 255;
 
 // Whether a value with these owners is hidden from a reader with this clearance: one of them is outside it. What hides
 // is asked here and nowhere else. The compiler takes what is outside once for a whole run (docs/BENCHMARKS.md).
+#[tactic(auto, using(crate::proofs::Owners::outside_none))]
 pub fn is_hidden(clearance: u8, owners: u8) -> bool
     ensures { result ≡ hidden_from clearance owners }
 {
@@ -43,6 +44,7 @@ pub fn is_hidden(clearance: u8, owners: u8) -> bool
 }
 
 // The value that a report shows: 0 for one that is hidden.
+#[tactic(auto, unfolding(crate::specs::Marks::shown))]
 pub fn shown_value(clearance: u8, mark: u8, value: u16) -> u16
     ensures { result ≡ shown (hidden_from clearance) mark value }
 {
@@ -74,11 +76,8 @@ fn clearing_mark(cleared: bool, register: u8, word: u8) -> Moved
     ensures { result ≡ clearing cleared register word }
 {
     Moved {
-        to_y: false,
-        register,
-        word,
-        mdr: 0,
         cleared,
+        ..one_mark(false, register, word)
     }
 }
 
@@ -87,11 +86,8 @@ fn all_marks(mark: u8) -> Moved
     ensures { result ≡ all_marks mark }
 {
     Moved {
-        to_y: false,
-        register: mark,
-        word: mark,
         mdr: mark,
-        cleared: false,
+        ..one_mark(false, mark, mark)
     }
 }
 
@@ -110,33 +106,20 @@ fn shifts_out(word: u16) -> bool
 }
 
 // From the instruction, and the marks of x, y, z, of y and z joined, and of the word that LOAD or STORE reaches.
-fn moves_of(decoded: Decoded, word: u16, x: u8, y: u8, z: u8, both: u8, cell: u8) -> Moved
+fn moves_of(decoded: Option<Opcode>, word: u16, x: u8, y: u8, z: u8, both: u8, cell: u8) -> Moved
     ensures { result ≡ moves decoded word x y z both cell }
 {
-    let Decoded::Known(opcode) = decoded else {
-        return one_mark(false, x, cell);
-    };
-    match opcode {
-        Opcode::LoadImmediate => one_mark(false, 0, cell),
-        Opcode::LoadRegister => one_mark(true, z, cell),
-        Opcode::LoadMemory => all_marks(cell),
-        Opcode::StoreMemory => all_marks(x),
-        Opcode::Add => one_mark(false, both, cell),
-        Opcode::Negate => one_mark(true, y, cell),
-        Opcode::ShiftRight => clearing_mark(shifts_out(word), x, cell),
-        Opcode::ShiftLeft => clearing_mark(shifts_out(word), x, cell),
-        Opcode::And => one_mark(false, both, cell),
-        Opcode::Or => one_mark(false, both, cell),
-        Opcode::Xor => clearing_mark(has_same_sources(word), both, cell),
-        Opcode::Jump => one_mark(false, x, cell),
-        Opcode::Halt => one_mark(false, x, cell),
+    match decoded {
+        Some(Opcode::LoadImmediate) => one_mark(false, 0, cell),
+        Some(Opcode::LoadRegister) => one_mark(true, z, cell),
+        Some(Opcode::LoadMemory) => all_marks(cell),
+        Some(Opcode::StoreMemory) => all_marks(x),
+        Some(Opcode::Add | Opcode::And | Opcode::Or) => one_mark(false, both, cell),
+        Some(Opcode::Negate) => one_mark(true, y, cell),
+        Some(Opcode::ShiftRight | Opcode::ShiftLeft) => clearing_mark(shifts_out(word), x, cell),
+        Some(Opcode::Xor) => clearing_mark(has_same_sources(word), both, cell),
+        Some(Opcode::Jump | Opcode::Halt) | None => one_mark(false, x, cell),
     }
-}
-
-fn pick(second: bool, a: usize, b: usize) -> usize
-    ensures { result ≡ cond second b a }
-{
-    if second { b } else { a }
 }
 
 // A cleared register x is open. This is a store of its own: with a choice between two marks in its place, the
@@ -152,7 +135,7 @@ fn open_cleared(cleared: bool, word: u16, registers: &mut [u8; REGISTER_COUNT])
 
 // What a whole instruction does to the marks, by the opcode that its word has; it answers MDR's.
 pub fn mark_decoded(
-    decoded: Decoded,
+    decoded: Option<Opcode>,
     word: u16,
     memory: &mut [u8; MEMORY_WORDS],
     registers: &mut [u8; REGISTER_COUNT],
@@ -168,7 +151,7 @@ pub fn mark_decoded(
     let third = registers[z];
     let both = join(second, third);
     let m = moves_of(decoded, word, registers[x], second, third, both, memory[at]);
-    let to = pick(m.to_y, x, y);
+    let to = if m.to_y { y } else { x };
     registers[to] = m.register;
     memory[at] = m.word;
     open_cleared(m.cleared, word, registers);
@@ -176,6 +159,7 @@ pub fn mark_decoded(
 }
 
 // The same of a word.
+#[tactic(auto, unfolding(crate::specs::Marks::instruction_marks))]
 pub fn mark_instruction(
     word: u16,
     memory: &mut [u8; MEMORY_WORDS],
@@ -184,9 +168,12 @@ pub fn mark_instruction(
     ensures { marks_of memory.new registers.new result
         ≡ instruction_marks word (marks_of memory.old registers.old 0) }
 {
-    let i = Instruction::from_word(word);
-    let decoded = i.opcode();
-    mark_decoded(decoded, word, memory, registers)
+    mark_decoded(
+        Instruction::from_word(word).opcode(),
+        word,
+        memory,
+        registers,
+    )
 }
 
 // How many totals there are.
@@ -196,21 +183,18 @@ const TOTALS: u32 = 65536;
 fn one(clearance: u8, mark: u8) -> u32
     ensures { result ≡ hidden (hidden_from clearance) mark }
 {
-    if is_hidden(clearance, mark) { 1 } else { 0 }
+    u32::from(is_hidden(clearance, mark))
 }
 
 // How many of the marks hide. It is asked once, where a run begins.
+#[tactic(auto, using(crate::proofs::Totals::counted))]
 pub fn count_hidden(clearance: u8, marks: &[u8]) -> usize
     ensures { result ≡ hidden_count (hidden_from clearance) marks.now }
 {
-    let mut total: usize = 0;
-    let mut i = 0;
-    while i < marks.len() {
-        let more = one(clearance, marks[i]);
-        total += more as usize;
-        i += 1;
-    }
-    total
+    marks
+        .iter()
+        .filter(|mark| is_hidden(clearance, **mark))
+        .count()
 }
 
 // A total with one word's mark changed: mostly it is the same again. It goes around at its end, where no count comes: a
@@ -229,7 +213,7 @@ fn retotal(clearance: u8, total: u16, old: u8, new: u8) -> u16
 // The total of hidden words after a whole instruction, from the marks before it, by the opcode that its word has.
 pub fn total_decoded(
     clearance: u8,
-    decoded: Decoded,
+    decoded: Option<Opcode>,
     word: u16,
     total: u16,
     memory: &[u8; MEMORY_WORDS],
@@ -237,10 +221,7 @@ pub fn total_decoded(
 ) -> u16
     ensures { result ≡ total_by (hidden_from clearance) decoded word memory.now registers.now total }
 {
-    let Decoded::Known(opcode) = decoded else {
-        return total;
-    };
-    let Opcode::StoreMemory = opcode else {
+    let Some(Opcode::StoreMemory) = decoded else {
         return total;
     };
     let x = (word / 256 % 16) as usize;
@@ -259,7 +240,12 @@ pub fn total_instruction(
     ensures { result
         ≡ total_by (hidden_from clearance) (decode_word word) word memory.now registers.now total }
 {
-    let i = Instruction::from_word(word);
-    let decoded = i.opcode();
-    total_decoded(clearance, decoded, word, total, memory, registers)
+    total_decoded(
+        clearance,
+        Instruction::from_word(word).opcode(),
+        word,
+        total,
+        memory,
+        registers,
+    )
 }

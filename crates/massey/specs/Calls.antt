@@ -36,7 +36,7 @@ listing_outcome image out =
 unfoldable pub assembled_outcome : List ℕ → List ℕ → Outcome ℤ
 assembled_outcome text out =
     let o = assembler.bytes_outcome text out in
-    outcome (number_of (assembler.told o.answer).refused (assembler.told o.answer).length) o.buffer
+    outcome (number_of o.answer.refused o.answer.length) o.buffer
 
 -- the same of a report (01, section 6), for the report program's input
 unfoldable pub reported_outcome : List ℕ → List ℕ → Outcome ℤ

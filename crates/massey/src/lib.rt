@@ -6,11 +6,11 @@ ghost use Rattle.std.specs.Prelude.{◌≡◌};
 ghost use Rattle.encoding.specs.Answer.{outcome};
 ghost use Rattle.massey.specs.Calls.{disassemble_outcome, listing_outcome, assembled_outcome, reported_outcome};
 
-use assemble::{Built, assemble_bytes};
+use assemble::assemble_bytes;
 use disasm::disassemble_into;
 use isa::TEXT_WIDTH;
-use listing::{Listed, list_bytes};
-use report::{Reported, report_bytes};
+use listing::list_bytes;
+use report::report_bytes;
 
 // The text of a word, in a field of 32 bytes.
 #[unsafe(no_mangle)]
@@ -28,10 +28,9 @@ pub extern "C" fn massey_disassemble(word: u16, out: &mut [u8]) -> i64
 pub extern "C" fn massey_listing(image: &[u8], out: &mut [u8]) -> i64
     ensures { outcome result out.new ≡ listing_outcome image.now out.old }
 {
-    let listed = list_bytes(image, out);
-    match listed {
-        Listed::Written(n) => n as i64,
-        Listed::Refused(n) => 0 - n as i64,
+    match list_bytes(image, out) {
+        Ok(size) => size as i64,
+        Err(refusal) => -(refusal.number() as i64),
     }
 }
 
@@ -40,10 +39,9 @@ pub extern "C" fn massey_listing(image: &[u8], out: &mut [u8]) -> i64
 pub extern "C" fn massey_assemble(text: &[u8], out: &mut [u8]) -> i64
     ensures { outcome result out.new ≡ assembled_outcome text.now out.old }
 {
-    let built = assemble_bytes(text, out);
-    match built {
-        Built::Written(n) => n as i64,
-        Built::Refused(n) => 0 - n as i64,
+    match assemble_bytes(text, out) {
+        Ok(size) => size as i64,
+        Err(refusal) => -(refusal.number() as i64),
     }
 }
 
@@ -53,9 +51,8 @@ pub extern "C" fn massey_assemble(text: &[u8], out: &mut [u8]) -> i64
 pub extern "C" fn massey_report(input: &[u8], out: &mut [u8]) -> i64
     ensures { outcome result out.new ≡ reported_outcome input.now out.old }
 {
-    let reported = report_bytes(input, out);
-    match reported {
-        Reported::Written(n) => n as i64,
-        Reported::Refused(n) => 0 - n as i64,
+    match report_bytes(input, out) {
+        Ok(size) => size as i64,
+        Err(refusal) => -(refusal.number() as i64),
     }
 }

@@ -8,23 +8,25 @@ use mathlib.Core.List.{List}
 use borrow.Author.Tests.{lt-ltb, le-ltb, ltb-false, eqb-false}
 use lib.Dec.{eqb, ltb}
 use lib.ListN.{length, take}
-use Rattle.encoding.specs.Answer.{Outcome, outcome}
+use Rattle.encoding.specs.Answer.{Outcome, outcome, Told, unless_refused}
 use Rattle.encoding.specs.Bytes.{over}
 use Rattle.encoding.proofs.Numbers.{length-big_endians}
 use Rattle.answer.specs.Line.{refusal_line}
 use Rattle.answer.specs.Answer.{answer_of, answer_outcome}
 use Rattle.answer.proofs.Answers.{fitting, refused-writes}
-use Rattle.assemble.specs.declared.Built.{Built}
-use Rattle.assemble.specs.declared.Built.TheVariants.{Written, Refused}
+use Rattle.std.specs.Prelude.{Ok, Err}
+use Rattle.encoding.specs.Refusal.{refusal_number, told}
+use Rattle.encoding.specs.declared.refusal.Refusal.{Refusal}
 use Rattle.assemble.specs.Assembly.{refusal, image}
-use Rattle.assemble.specs.Answer.{image_bytes, bytes_refusal, unless_refused, bytes_outcome, told}
+use Rattle.assemble.proofs.Answers.{number-suc}
+use Rattle.assemble.specs.Answer.{image_bytes, bytes_refusal, bytes_outcome}
 use Rattle.massey_assemble.specs.Answer.{text_limit, program_refusal, program_answer, program_outcome}
 
 module _ (text out : List ℕ) where
   -- ---- the call on bytes, by the number n of its refusal
 
-  abbrev call : ℕ → Outcome Built
-  call n = unless_refused n out (outcome (Written (2 * length (image text))) (over out 0 (image_bytes text)))
+  abbrev call : ℕ → Outcome Told
+  call n = unless_refused n out (outcome (told (Ok (2 * length (image text)))) (over out 0 (image_bytes text)))
 
   abbrev answered : ℕ → Outcome ℕ
   answered n = answer_outcome (answer_of n (image_bytes text)) out
@@ -38,21 +40,21 @@ module _ (text out : List ℕ) where
       go true p false q z = rw length-big_endians (ltb-false (length out) (2 * length (image text)) q)
       go false p u q z = absurd (eqb-false (refusal text) 0 p z)
 
-  written_by : (n size : ℕ) {left : List ℕ} → bytes_refusal text (length out) ≡ n → outcome (Written size) left ≡ call n → outcome size left ≡ answered n
+  written_by : (n size : ℕ) {left : List ℕ} → bytes_refusal text (length out) ≡ n → outcome (told (Ok size)) left ≡ call n → outcome size left ≡ answered n
   written_by zero size z e =
-      let s : size ≡ 2 * length (image text) = ap (λ (o : Outcome Built). (told o.answer).length) e in
-      fitting (image_bytes text) out (image-fits z) (s ∙ sym (length-big_endians 2 (image text))) (ap (λ (o : Outcome Built). o.buffer) e)
-  written_by (suc n) size z e = let r = ap (λ (o : Outcome Built). (told o.answer).refused) e in absurd (omega arith)
+      let s : size ≡ 2 * length (image text) = ap (λ (o : Outcome Told). o.answer.length) e in
+      fitting (image_bytes text) out (image-fits z) (s ∙ sym (length-big_endians 2 (image text))) (ap (λ (o : Outcome Told). o.buffer) e)
+  written_by (suc n) size z e = let r = ap (λ (o : Outcome Told). o.answer.refused) e in absurd (omega arith)
 
-  refused_by : (n number : ℕ) {size : ℕ} {kept left : List ℕ} → outcome (Refused number) kept ≡ call n → outcome size left ≡ answer_outcome (refusal_line number) kept → outcome size left ≡ answered n
-  refused_by zero number e line =
-      let a : Refused number ≡ Written (2 * length (image text)) = ap (λ (o : Outcome Built). o.answer) e in
-      let y : ◌≡◌ {A = ℕ} 0 1 = cc in
-      absurd (omega arith)
-  refused_by (suc n) number e line =
-      let r = ap (λ (o : Outcome Built). (told o.answer).refused) e in
-      let k = ap (λ (o : Outcome Built). o.buffer) e in
-      line ∙ (λ i. answer_outcome (refusal_line (r i)) (k i))
+  refused_as : (n : ℕ) (r : Refusal) {size : ℕ} {kept left : List ℕ} → outcome (told (Err r)) kept ≡ call n → outcome size left ≡ answer_outcome (refusal_line (refusal_number r)) kept → outcome size left ≡ answered n
+  refused_as zero r e line =
+      let z = ap (λ (o : Outcome Told). o.answer.refused) e in
+      let k = number-suc r in
+      absurd (omega (arith, k.1))
+  refused_as (suc n) r e line =
+      let n = ap (λ (o : Outcome Told). o.answer.refused) e in
+      let k = ap (λ (o : Outcome Told). o.buffer) e in
+      line ∙ (λ i. answer_outcome (refusal_line (n i)) (k i))
 
   -- ---- the program, where a read failed, where the text is too long, and where the call answers
 
@@ -64,14 +66,14 @@ module _ (text out : List ℕ) where
   unfolding program_outcome program_answer program_refusal
   too_long h line = rw (lt-ltb text_limit (length text) h) line
 
-  pub written-answer : (size : ℕ) {left : List ℕ} → length text ≤ text_limit → outcome (Written size) left ≡ bytes_outcome text out → outcome size left ≡ program_outcome true text out
+  pub written-answer : (size : ℕ) {left : List ℕ} → length text ≤ text_limit → outcome (told (Ok size)) left ≡ bytes_outcome text out → outcome size left ≡ program_outcome true text out
   unfolding bytes_outcome program_outcome program_answer program_refusal
   written-answer size h e = rw (le-ltb text_limit (length text) h) (written_by (bytes_refusal text (length out)) size refl e)
 
-  pub refused-answer : (number : ℕ) {size : ℕ} {kept left : List ℕ} → length text ≤ text_limit → outcome (Refused number) kept ≡ bytes_outcome text out
-      → outcome size left ≡ answer_outcome (refusal_line number) kept → outcome size left ≡ program_outcome true text out
+  pub refused-answer : (r : Refusal) {size : ℕ} {kept left : List ℕ} → length text ≤ text_limit → outcome (told (Err r)) kept ≡ bytes_outcome text out
+      → outcome size left ≡ answer_outcome (refusal_line (refusal_number r)) kept → outcome size left ≡ program_outcome true text out
   unfolding bytes_outcome program_outcome program_answer program_refusal
-  refused-answer number h e line = rw (le-ltb text_limit (length text) h) (refused_by (bytes_refusal text (length out)) number e line)
+  refused-answer r h e line = rw (le-ltb text_limit (length text) h) (refused_as (bytes_refusal text (length out)) r e line)
 
 -- ---- what the program writes: the first bytes of the buffer, as many as it answers
 

@@ -7,7 +7,8 @@ ghost use Rattle.encoding.specs.Answer.{outcome};
 ghost use Rattle.massey_assemble.specs.Answer.{program_outcome};
 
 use answer::{first, put_refusal, read_input};
-use assemble::{Built, assemble_bytes};
+use assemble::assemble_bytes;
+use encoding::Refusal;
 use std::io::{Result, Write};
 
 // The longest text that the program takes; the call takes any.
@@ -24,15 +25,14 @@ fn put_answer(text: &[u8], whole: bool, out: &mut [u8]) -> usize
     ensures { outcome result out.new ≡ program_outcome whole text.now out.old }
 {
     if !whole {
-        return put_refusal(out, 6);
+        return put_refusal(out, Refusal::InputLength.number());
     }
     if TEXT < text.len() {
-        return put_refusal(out, 6);
+        return put_refusal(out, Refusal::InputLength.number());
     }
-    let built = assemble_bytes(text, out);
-    match built {
-        Built::Written(size) => size,
-        Built::Refused(number) => put_refusal(out, number),
+    match assemble_bytes(text, out) {
+        Ok(size) => size,
+        Err(refusal) => put_refusal(out, refusal.number()),
     }
 }
 

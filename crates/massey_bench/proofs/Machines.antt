@@ -15,9 +15,9 @@ use Rattle.control.specs.Count.{over_counted}
 use Rattle.vm.specs.declared.machine.Machine.{Machine as Code}
 use Rattle.vm.specs.Machine.{Machine, micro_step}
 use Rattle.vm.specs.Instruction.{step_instruction}
-use Rattle.vm.specs.Refusal.{refusal, step_refusal_if, step_refusal}
-use Rattle.vm.specs.Calls.{view_of, is_machine, step_refusal_of, restarted, image_words, image_size, serve, loaded}
-use Rattle.vm.specs.StepCalls.{effect_if, no_op, halted_op, micro_op, micro_effect, no_report, halted_report, instruction_report, step_effect}
+use Rattle.vm.specs.Refusal.{step_refusal_if, step_refusal}
+use Rattle.vm.specs.Calls.{view_of, is_machine, step_refusal_of, restarted, image_words, image_size, loaded}
+use Rattle.vm.specs.StepCalls.{effect_if, halted_op, micro_op, micro_effect, halted_report, instruction_report, step_effect}
 use Rattle.vm.proofs.Starts.{new_ok}
 use Rattle.massey_bench.specs.Machine.{word_count, words_of, start, moving}
 
@@ -45,11 +45,6 @@ pub start_ok : (image : List ℕ) → is_machine (start image) ≡ true
 unfolding start
 start_ok image = new_ok (image_words (words_of image)) (word_count (length image)) 0 (count_fits (length image)).0
 
--- a call on a machine is served
-new_served : {ok : Bool} → ok ≡ true → (new old : Code) → (serve (cond ok 0 8) new old).machine ≡ new
-unfolding serve
-new_served e new old = rw e
-
 no_history : (image : List ℕ) (n h : ℕ) → (restarted image n h).history_len ≡ h
 unfolding restarted
 no_history image n h = refl
@@ -59,10 +54,9 @@ all-count : {n : ℕ} → n ≤ memory_words → image_size n ≡ n
 all-count h = omega (arith, h)
 
 loaded_new : (ws : List ℕ) (m : Code) → is_machine m ≡ true → length ws ≤ memory_words → (loaded ws m).machine ≡ restarted (image_words ws) (length ws) m.history_len
-unfolding loaded refusal
+unfolding loaded
 loaded_new ws m ok h =
-    new_served ok (restarted (image_words ws) (image_size (length ws)) m.history_len) m
-    ∙ ap (λ (n : ℕ). restarted (image_words ws) n m.history_len) (all-count h)
+    rw ok (ap (λ (n : ℕ). restarted (image_words ws) n m.history_len) (all-count h))
 
 -- the words of an image, loaded on a new machine
 pub start-loaded : (image : List ℕ) {ws : List ℕ} {m : Code} → ws ≡ words_of image → m ≡ restarted (image_words []) 0 0 → (loaded ws m).machine ≡ start image
@@ -77,24 +71,24 @@ start-loaded image {ws} {m} e g =
 
 -- ---- what a step leaves
 
-left_effect : {A : Type 0} (h o : Bool) (none still moved : A) (m next : Machine) → (effect_if (step_refusal_if true h o) h none still moved m next).machine ≡ cond h m (cond o m next)
-left_effect true o none still moved m next = refl
-left_effect false true none still moved m next = refl
-left_effect false false none still moved m next = refl
+left_effect : {A : Type 0} (h o : Bool) (still moved : A) (m next : Machine) → (effect_if (step_refusal_if true h o) h still moved m next).machine ≡ cond h m (cond o m next)
+left_effect true o still moved m next = refl
+left_effect false true still moved m next = refl
+left_effect false false still moved m next = refl
 
 -- of a machine, a call whose effect goes by refusal 9 and by whether it is halted
-after : {A : Type 0} (s : Code) (none still moved : A) (next : Machine) → is_machine s ≡ true
-    → (effect_if (step_refusal_of s) s.state.control.halted none still moved (view_of s) next).machine ≡ cond s.state.control.halted (view_of s) (cond (over_counted s.counters) (view_of s) next)
+after : {A : Type 0} (s : Code) (still moved : A) (next : Machine) → is_machine s ≡ true
+    → (effect_if (step_refusal_of s) s.state.control.halted still moved (view_of s) next).machine ≡ cond s.state.control.halted (view_of s) (cond (over_counted s.counters) (view_of s) next)
 unfolding step_refusal
-after s none still moved next ok =
+after s still moved next ok =
     let h = s.state.control.halted in
     let o = over_counted s.counters in
-    ap (λ (b : Bool). (effect_if (step_refusal_if b h o) h none still moved (view_of s) next).machine) ok ∙ left_effect h o none still moved (view_of s) next
+    ap (λ (b : Bool). (effect_if (step_refusal_if b h o) h still moved (view_of s) next).machine) ok ∙ left_effect h o still moved (view_of s) next
 
 pub after-tick : (s : Code) → is_machine s ≡ true → (micro_effect (step_refusal_of s) (view_of s)).machine ≡ moving micro_step (view_of s)
 unfolding micro_effect moving
-after-tick s ok = let v = view_of s in after s no_op (halted_op v.state) (micro_op v) (micro_step v) ok
+after-tick s ok = let v = view_of s in after s (halted_op v.state) (micro_op v) (micro_step v) ok
 
 pub after-step : (s : Code) → is_machine s ≡ true → (step_effect (step_refusal_of s) (view_of s)).machine ≡ moving (λ v. (step_instruction v).machine) (view_of s)
 unfolding step_effect moving
-after-step s ok = let v = view_of s in after s no_report (halted_report v) (instruction_report v) (step_instruction v).machine ok
+after-step s ok = let v = view_of s in after s (halted_report v) (instruction_report v) (step_instruction v).machine ok

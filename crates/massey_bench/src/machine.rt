@@ -5,14 +5,14 @@ ghost use Rattle.vm.specs.Calls.{view_of, is_machine};
 ghost use Rattle.massey_bench.specs.Machine.{word_count, start, ticks_on, run_count, steps_count, ticks_count};
 
 use encoding::get_words;
-use isa::{MEMORY_WORDS, least};
+use isa::MEMORY_WORDS;
 use vm::{Begun, Machine};
 
 // How many words there are in so many bytes, at most 256.
 fn word_count(bytes: usize) -> usize
     ensures { result ≡ word_count bytes }
 {
-    least(bytes / 2, MEMORY_WORDS)
+    (bytes / 2).min(MEMORY_WORDS)
 }
 
 // A new machine with the image's words loaded, high byte first; an odd byte at the end is none.
@@ -22,9 +22,9 @@ pub(crate) fn started(image: &[u8]) -> Machine
     let n = word_count(image.len());
     let mut words = [0u16; MEMORY_WORDS];
     get_words(image, 0, &mut words[..n]);
-    let new = Machine::new();
-    let served = new.load_image(&words[..n]);
-    served.machine
+    let mut m = Machine::new();
+    let _ = m.load_image(&words[..n]);
+    m
 }
 
 // The machine after `n` ticks, one at a time.
@@ -32,12 +32,8 @@ fn ticked(image: &[u8], n: u64) -> Machine
     ensures { (view_of result ≡ ticks_on image.now n) × (is_machine result ≡ true) }
 {
     let mut m = started(image);
-    let mut i: u64 = 0;
-    while i < n {
-        let a = m.micro_step();
-        let next = a.machine;
-        m = next;
-        i += 1;
+    for _ in 0..n {
+        let _ = m.micro_step();
     }
     m
 }
@@ -47,10 +43,9 @@ fn ticked(image: &[u8], n: u64) -> Machine
 pub extern "C" fn massey_run(image: &[u8], ticks: u64, budget: u64, breakpoints: &[u8]) -> u64
     ensures { result ≡ run_count image.now ticks budget breakpoints.now }
 {
-    let m = ticked(image, ticks);
-    let ran = m.run(Begun(budget), breakpoints);
-    let end = ran.machine;
-    end.counters.micro_operations
+    let mut m = ticked(image, ticks);
+    let _ = m.run(Begun(budget), breakpoints);
+    m.counters.micro_operations
 }
 
 // The same by the direct engine, from the start and without breakpoints.
@@ -58,10 +53,9 @@ pub extern "C" fn massey_run(image: &[u8], ticks: u64, budget: u64, breakpoints:
 pub extern "C" fn massey_direct_run(image: &[u8], budget: u64) -> u64
     ensures { result ≡ run_count image.now 0 budget [] }
 {
-    let m = started(image);
-    let ran = m.direct_run(Begun(budget), b"");
-    let end = ran.machine;
-    end.counters.micro_operations
+    let mut m = started(image);
+    let _ = m.direct_run(Begun(budget), b"");
+    m.counters.micro_operations
 }
 
 // The micro operations of `n` instructions, one at a time.
@@ -70,12 +64,8 @@ pub extern "C" fn massey_steps(image: &[u8], n: u64) -> u64
     ensures { result ≡ steps_count image.now n }
 {
     let mut m = started(image);
-    let mut i: u64 = 0;
-    while i < n {
-        let a = m.step_instruction();
-        let next = a.machine;
-        m = next;
-        i += 1;
+    for _ in 0..n {
+        let _ = m.step_instruction();
     }
     m.counters.micro_operations
 }
@@ -86,12 +76,8 @@ pub extern "C" fn massey_direct_steps(image: &[u8], n: u64) -> u64
     ensures { result ≡ steps_count image.now n }
 {
     let mut m = started(image);
-    let mut i: u64 = 0;
-    while i < n {
-        let a = m.direct_instruction();
-        let next = a.machine;
-        m = next;
-        i += 1;
+    for _ in 0..n {
+        let _ = m.direct_instruction();
     }
     m.counters.micro_operations
 }

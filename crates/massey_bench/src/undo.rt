@@ -24,12 +24,8 @@ pub extern "C" fn massey_pushes(image: &[u8], store: &mut [u8], count: u64, n: u
     ensures left { store.new ≡ (pushes n (kept image.now store.old count)).store }
 {
     let mut m = started_with(image, count);
-    let mut i: u64 = 0;
-    while i < n {
-        let a = m.push_history(store);
-        let next = a.machine;
-        m = next;
-        i += 1;
+    for _ in 0..n {
+        let _ = m.push_history(store);
     }
     m.history_len as u64
 }
@@ -40,12 +36,8 @@ pub extern "C" fn massey_undos(image: &[u8], store: &[u8], count: u64, n: u64) -
     ensures { result ≡ (undos n store.now (with_history count (start image.now))).history_len }
 {
     let mut m = started_with(image, count);
-    let mut i: u64 = 0;
-    while i < n {
-        let a = m.undo(store);
-        let next = a.machine;
-        m = next;
-        i += 1;
+    for _ in 0..n {
+        let _ = m.undo(store);
     }
     m.history_len as u64
 }

@@ -1,201 +1,113 @@
 // What each command does, and its answer in lent bytes.
-use crate::dump::append_machine;
-use crate::output::append;
+use crate::command::{Command, Run};
+use crate::output::Answer;
 use crate::set::{set_byte, set_field};
-use crate::state::{transfer_number, write_number};
-use encoding::{get_number, get_words, put_bytes, put_number};
-use guard::RunStop;
-use isa::Text;
-use vm::{Begun, InstructionAnswer, InstructionReport, Machine, MicroOp, Ran, Served};
+use encoding::{Refusal, get_words};
+use vm::{InstructionReport, Machine, MicroOp, Ran};
 
-// The machine after a command, and how many bytes its answer has.
-#[derive(Drop)]
-pub(crate) struct Replied {
-    pub machine: Machine,
-    pub len: usize,
+// An image counts up to 256 words, so more than these need not be handed over.
+const WORDS: usize = 512;
+
+// `load_image`, of words of two bytes.
+fn load(m: &mut Machine, bytes: &[u8]) -> Result<(), Refusal> {
+    let count = (bytes.len() / 2).min(WORDS);
+    let mut words = [0u16; WORDS];
+    get_words(bytes, 0, &mut words[..count]);
+    m.load_image(&words[..count])
 }
 
-// An answer's first byte is the refusal. What stands behind it counts where the call was served.
-fn put_refusal(out: &mut [u8], refused: u8, len: usize) -> usize {
-    put_number(out, 0, 1, refused as u64);
-    if refused == 0 { len } else { 1 }
-}
-
-// A call that answers nothing more than its refusal.
-fn reply_served(s: Served, out: &mut [u8]) -> Replied {
-    let machine = s.machine;
-    let len = put_refusal(out, s.refused, 1);
-    Replied { machine, len }
-}
-
-// A new machine is never refused.
-fn renewed() -> Served {
-    let machine = Machine::new();
-    Served {
-        machine,
-        refused: 0,
-    }
-}
-
-// Takes the image out of the command into `words`, which has just its length, and loads it.
-fn load_words(m: Machine, command: &[u8], words: &mut [u16]) -> Served {
-    get_words(command, 3, words);
-    m.load_image(words)
-}
-
-// `load_image`. An image counts up to 256 words, so more than 512 need not be handed over.
-fn load(m: Machine, command: &[u8]) -> Served {
-    let count = get_number(command, 1, 2) as usize;
-    let mut words = [0u16; 512];
-    if count < 512 {
-        return load_words(m, command, &mut words[0..count]);
-    }
-    load_words(m, command, &mut words)
-}
-
-// What a tick reports, 45 bytes behind the refusal.
-fn put_op(out: &mut [u8], op: MicroOp) {
-    let text = op.text;
-    let bytes = text.bytes;
-    let phase = op.phase;
-    let bus = op.bus;
-    let write = op.write;
-    let ends = [
-        phase.number(),
-        op.ends_instruction as u8,
-        op.halts as u8,
-        op.faulted as u8,
-    ];
-    put_bytes(out, 1, &bytes);
-    put_bytes(out, 33, &ends);
-    put_number(out, 37, 4, transfer_number(bus));
-    put_number(out, 41, 4, write_number(write));
-    put_number(out, 45, 1, op.address as u64);
+// What a tick did.
+fn append_op(answer: &mut Answer, op: MicroOp) {
+    answer.append(&op.text.bytes);
+    answer.append_byte(op.phase.number());
+    answer.append_flag(op.ends_instruction);
+    answer.append_flag(op.halts);
+    answer.append_flag(op.faulted);
+    answer.append_transfer(op.bus);
+    answer.append_write(op.write);
+    answer.append_byte(op.address);
 }
 
 // `micro_step`.
-fn micro(m: Machine, out: &mut [u8]) -> Replied {
-    let a = m.micro_step();
-    let op = a.op;
-    let machine = a.machine;
-    put_op(out, op);
-    let len = put_refusal(out, a.refused, 46);
-    Replied { machine, len }
-}
-
-// A text's 32 bytes.
-fn append_text(out: &mut [u8], at: usize, t: Text) -> usize {
-    let bytes = t.bytes;
-    append(out, at, &bytes)
-}
-
-// The texts of an instruction's ticks, 32 bytes each. There are seven at most.
-fn append_texts(out: &mut [u8], from: usize, texts: [Text; 7], n: usize) -> usize {
-    let mut at = from;
-    let mut i = 0;
-    while i < 7 {
-        if i == n {
-            return at;
-        }
-        at = append_text(out, at, texts[i]);
-        i += 1;
+fn ticked(done: Result<MicroOp, Refusal>, answer: &mut Answer) {
+    if let Some(op) = answer.served(done) {
+        append_op(answer, op);
     }
-    at
 }
 
-// What an instruction reports, behind the refusal. Its length goes by the number of ticks.
-fn put_report(out: &mut [u8], r: InstructionReport) -> usize {
+// What an instruction did: its length goes by the number of ticks, seven at most.
+fn append_report(answer: &mut Answer, r: InstructionReport) {
     let plan = r.micro_ops;
-    let texts = plan.texts;
-    let text = r.text;
-    let ends = [r.halted as u8, r.faulted as u8];
-    put_number(out, 1, 1, r.address as u64);
-    put_number(out, 2, 2, r.word as u64);
-    append_text(out, 4, text);
-    put_number(out, 36, 1, plan.count as u64);
-    let at = append_texts(out, 37, texts, plan.count as usize);
-    append(out, at, &ends)
+    answer.append_byte(r.address);
+    answer.append_word(r.word);
+    answer.append(&r.text.bytes);
+    answer.append_byte(plan.count as u8);
+    for text in plan.texts.iter().take(plan.count as usize) {
+        answer.append(&text.bytes);
+    }
+    answer.append_flag(r.halted);
+    answer.append_flag(r.faulted);
 }
 
 // `step_instruction`, and the direct engine's instruction.
-fn stepped(a: InstructionAnswer, out: &mut [u8]) -> Replied {
-    let report = a.report;
-    let machine = a.machine;
-    let end = put_report(out, report);
-    let len = put_refusal(out, a.refused, end);
-    Replied { machine, len }
-}
-
-// What a run tells: its stop, and how many instructions it made.
-fn put_ran(out: &mut [u8], stop: RunStop, executed: Begun) -> usize {
-    let kind = [stop.number(), stop.address()];
-    put_bytes(out, 1, &kind);
-    put_number(out, 3, 8, executed.0);
-    put_refusal(out, stop.refusal(), 11)
-}
-
-// `run`, and the direct engine's run.
-fn ran(r: Ran, out: &mut [u8]) -> Replied {
-    let stop = r.stop;
-    let machine = r.machine;
-    let len = put_ran(out, stop, r.executed);
-    Replied { machine, len }
-}
-
-// The breakpoints are what the command has behind its first 11 bytes.
-fn breakpoints(command: &[u8]) -> &[u8] {
-    if command.len() < 11 {
-        command
-    } else {
-        &command[11..]
+fn stepped(done: Result<InstructionReport, Refusal>, answer: &mut Answer) {
+    if let Some(report) = answer.served(done) {
+        append_report(answer, report);
     }
 }
 
-// A dump leaves the machine as it is.
-fn dumped(m: Machine, store: &[u8], out: &mut [u8]) -> Replied {
-    let end = append_machine(out, m);
-    let len = append(out, end, store);
-    Replied { machine: m, len }
-}
-
-// A command that sets something answers nothing.
-fn silent(machine: Machine) -> Replied {
-    Replied { machine, len: 0 }
-}
-
-// A byte of the store leaves the machine as it is.
-fn stored(m: Machine, command: &[u8], store: &mut [u8]) -> Replied {
-    set_byte(store, command);
-    silent(m)
-}
-
-// The calls that answer nothing more than their refusal.
-fn serve(m: Machine, command: &[u8], store: &mut [u8]) -> Served {
-    let kind = get_number(command, 0, 1);
-    match kind {
-        0x01 => load(m, command),
-        0x02 => m.reset(),
-        0x03 => m.clear(),
-        0x07 => m.push_history(store),
-        0x08 => m.undo(store),
-        0x09 => m.clear_history(),
-        _ => renewed(),
+// `run`, and the direct engine's run: its stop, and how many instructions it made.
+fn ran(done: Ran, answer: &mut Answer) {
+    if let Some(stop) = answer.served(done.stop) {
+        answer.append(&[stop.number(), stop.address()]);
+        answer.append_number(done.executed.0);
     }
 }
 
-// The machine after a command, one of the table's, whose operands are all there.
-pub(crate) fn reply(m: Machine, command: &[u8], store: &mut [u8], out: &mut [u8]) -> Replied {
-    let kind = get_number(command, 0, 1);
-    let budget = get_number(command, 1, 8);
-    match kind {
-        0x04 => micro(m, out),
-        0x05 => stepped(m.step_instruction(), out),
-        0x06 => ran(m.run(Begun(budget), breakpoints(command)), out),
-        0x0A => dumped(m, store, out),
-        0x0B => silent(set_field(m, command)),
-        0x0C => stored(m, command, store),
-        0x0D => stepped(m.direct_instruction(), out),
-        0x0E => ran(m.direct_run(Begun(budget), breakpoints(command)), out),
-        _ => reply_served(serve(m, command, store), out),
+// The machine, and the store behind it.
+fn dump(m: &Machine, store: &[u8], answer: &mut Answer) {
+    answer.append_machine(m);
+    answer.append(store);
+}
+
+// A call that answers nothing more than its refusal.
+fn told(done: Result<(), Refusal>, answer: &mut Answer) {
+    let _ = answer.served(done);
+}
+
+// A new machine is never refused.
+fn renewed(m: &mut Machine) -> Result<(), Refusal> {
+    *m = Machine::new();
+    Ok(())
+}
+
+// Does what the command says, and puts what is to be answered.
+pub(crate) fn reply(m: &mut Machine, command: Command, store: &mut [u8], answer: &mut Answer) {
+    match command {
+        Command::NewMachine => told(renewed(m), answer),
+        Command::LoadImage(words) => told(load(m, words), answer),
+        Command::Reset => told(m.reset(), answer),
+        Command::Clear => told(m.clear(), answer),
+        Command::MicroStep => ticked(m.micro_step(), answer),
+        Command::StepInstruction => stepped(m.step_instruction(), answer),
+        Command::Run(
+            Run {
+                budget,
+                breakpoints,
+            },
+        ) => ran(m.run(budget, breakpoints), answer),
+        Command::PushHistory => told(m.push_history(store), answer),
+        Command::Undo => told(m.undo(store), answer),
+        Command::ClearHistory => told(m.clear_history(), answer),
+        Command::Dump => dump(m, store, answer),
+        Command::SetField(setting) => set_field(m, setting),
+        Command::SetByte { offset, value } => set_byte(store, offset as usize, value),
+        Command::DirectInstruction => stepped(m.direct_instruction(), answer),
+        Command::DirectRun(
+            Run {
+                budget,
+                breakpoints,
+            },
+        ) => ran(m.direct_run(budget, breakpoints), answer),
     }
 }

@@ -3,6 +3,7 @@
 #![tactic(auto)]
 
 mod calls;
+mod command;
 mod dump;
 mod list;
 mod output;
@@ -10,7 +11,7 @@ mod set;
 mod state;
 
 use answer::read_input;
-use encoding::get_number;
+use command::Rest;
 use output::write_malformed;
 use std::io::{Result, Write};
 
@@ -18,24 +19,21 @@ use std::io::{Result, Write};
 const INPUT: usize = 262145;
 
 // The longest store.
-const STORE: u64 = 65536;
+const STORE: u32 = 65536;
 
 // The longest answer: a dump with the longest store.
 const ANSWER: usize = 88932;
 
 // Plays an input that begins as it should: its first four bytes are the store's length.
 fn play<W: Write>(to: &mut W, input: &[u8]) -> Result<()> {
-    if input.len() < 4 {
-        return write_malformed(to);
-    }
-    let size = get_number(input, 0, 4);
-    if STORE < size {
-        return write_malformed(to);
-    }
-    let len = size as usize;
+    let mut rest = Rest::new(input);
+    let size = match rest.long() {
+        Some(size) if size <= STORE => size as usize,
+        _ => return write_malformed(to),
+    };
     let mut store = io::large_buffer();
     let mut out = [0u8; ANSWER];
-    list::play(to, &input[4..], &mut store[0..len], &mut out)
+    list::play(to, rest, &mut store[..size], &mut out)
 }
 
 // An input that is too long is malformed from its start, and so is one that could not be read to its

@@ -1,44 +1,66 @@
-// The parts of a machine's state as answers and dumps have them: the library says each by number and
-// values, and here these stand one behind the other.
-use control::{AluRecord, BusTransfer, Control, Fault, RegisterWrite};
+// The parts of a machine's state as answers and dumps have them: the library says each by numbers, and
+// here these stand one behind the other.
+ghost use Rattle.std.specs.Prelude.{◌<◌};
 
-// Four bytes: two of one byte each, and a word.
-fn four_bytes(first: u8, second: u8, word: u16) -> u64 {
-    first as u64 * 0x1000000 + second as u64 * 65536 + word as u64
+use crate::output::Answer;
+use control::{
+    AluCode, AluRecord, BusTransfer, Control, Counters, Fault, FaultCode, RegisterWrite,
+    TransferCode, WriteCode,
+};
+use trace::TRACE_LIMIT;
+use vm::Machine;
+
+// The slot of a trace record, counted from the oldest.
+pub(crate) fn slot_of(m: &Machine, index: usize) -> usize
+    ensures { result < TRACE_LIMIT }
+{
+    (m.trace_start % TRACE_LIMIT + index % TRACE_LIMIT) % TRACE_LIMIT
 }
 
-// The four bytes of a fault: its kind, word and address.
-pub(crate) fn fault_number(fault: Fault) -> u64 {
-    let code = fault.code();
-    code.kind as u64 * 0x1000000 + code.word as u64 * 256 + code.address as u64
-}
+impl<'a> Answer<'a> {
+    // The control unit around the registers, which stand behind PC and IR.
+    pub(crate) fn append_control(&mut self, c: Control, registers: &[u16]) {
+        self.append_byte(c.pc);
+        self.append_word(c.ir);
+        self.append_words(registers);
+        self.append_byte(c.mar);
+        self.append_word(c.mdr);
+        self.append(&[c.instruction_address, c.tick, c.execute_ticks]);
+        self.append_flag(c.halted);
+    }
 
-// The four bytes of a transfer: its kind, address and value.
-pub(crate) fn transfer_number(transfer: BusTransfer) -> u64 {
-    let code = transfer.code();
-    four_bytes(code.kind, code.address, code.value)
-}
+    pub(crate) fn append_fault(&mut self, fault: Option<Fault>) {
+        let code = FaultCode::from(fault);
+        self.append_byte(code.kind);
+        self.append_word(code.word);
+        self.append_byte(code.address);
+    }
 
-// The four bytes of the registers written: how many, which and its value.
-pub(crate) fn write_number(write: RegisterWrite) -> u64 {
-    let code = write.code();
-    four_bytes(code.count, code.register, code.value)
-}
+    pub(crate) fn append_counters(&mut self, k: Counters) {
+        self.append_number(k.instructions);
+        self.append_number(k.micro_operations);
+        self.append_number(k.bus_reads);
+        self.append_number(k.bus_writes);
+    }
 
-// The eight bytes of an operation of the ALU: which, its words and the result.
-pub(crate) fn alu_number(alu: AluRecord) -> u64 {
-    let code = alu.code();
-    let first = code.operation as u64 * 65536 + code.left as u64;
-    let second = code.right_there as u64 * 65536 + code.right as u64;
-    first * 0x10000000000 + second * 65536 + code.result as u64
-}
+    pub(crate) fn append_transfer(&mut self, transfer: Option<BusTransfer>) {
+        let code = TransferCode::from(transfer);
+        self.append(&[code.kind, code.address]);
+        self.append_word(code.value);
+    }
 
-// The six bytes of the control unit behind the registers: MAR, MDR, the instruction's address, and
-// its ticks.
-pub(crate) fn control_number(c: Control) -> u64 {
-    let first = c.mar as u64 * 65536 + c.mdr as u64;
-    let second = c.instruction_address as u64 * 65536
-        + c.tick as u64 * 256
-        + c.execute_ticks as u64;
-    first * 0x1000000 + second
+    pub(crate) fn append_write(&mut self, write: Option<RegisterWrite>) {
+        let code = WriteCode::from(write);
+        self.append(&[code.count, code.register]);
+        self.append_word(code.value);
+    }
+
+    pub(crate) fn append_alu(&mut self, alu: Option<AluRecord>) {
+        let code = AluCode::from(alu);
+        self.append_byte(code.operation);
+        self.append_word(code.left);
+        self.append_byte(code.right_there);
+        self.append_word(code.right);
+        self.append_word(code.result);
+    }
 }

@@ -12,8 +12,10 @@ use Rattle.encoding.specs.Bytes.{over}
 use Rattle.answer.specs.Line.{refusal_line}
 use Rattle.answer.specs.Answer.{answer_of, answer_outcome}
 use Rattle.answer.proofs.Answers.{fitting, refused-writes}
-use Rattle.listing.specs.declared.Listed.TheVariants.{Written, Refused}
-use Rattle.listing.specs.Listing.{listing_words, listing_length, told, bytes_refusal, bytes_listing, bytes_outcome}
+use Rattle.std.specs.Prelude.{Ok, Err}
+use Rattle.encoding.specs.Refusal.{refusal_number, told}
+use Rattle.encoding.specs.declared.refusal.Refusal.{Refusal}
+use Rattle.listing.specs.Listing.{listing_words, listing_length, bytes_refusal, bytes_listing, bytes_outcome}
 use Rattle.listing.proofs.Listings.{head_at_least, length-bytes, bytes-room}
 use Rattle.massey_listing.specs.Answer.{program_refusal, program_answer, program_outcome}
 
@@ -21,9 +23,9 @@ use Rattle.massey_listing.specs.Answer.{program_refusal, program_answer, program
 
 module _ (input out : List ℕ) where
   abbrev call : ℕ → Outcome Told
-  call n = unless_refused n out (outcome (told (Written (listing_length (length input / 2)))) (over out 0 (bytes_listing input)))
+  call n = unless_refused n out (outcome (told (Ok (listing_length (length input / 2)))) (over out 0 (bytes_listing input)))
 
-  served_by : (n : ℕ) {size : ℕ} {left : List ℕ} → bytes_refusal (length input) (length out) ≡ n → outcome (told (Written size)) left ≡ call n
+  served_by : (n : ℕ) {size : ℕ} {left : List ℕ} → bytes_refusal (length input) (length out) ≡ n → outcome (told (Ok size)) left ≡ call n
       → outcome size left ≡ answer_outcome (answer_of n (bytes_listing input)) out
   served_by zero z e =
       let l = length-bytes input in
@@ -32,24 +34,24 @@ module _ (input out : List ℕ) where
       let r = ap (λ (o : Outcome Told). o.answer.refused) e in
       absurd (omega arith)
 
-  refused_by : (n number : ℕ) {size : ℕ} {kept left : List ℕ} → outcome (told (Refused number)) kept ≡ call n → outcome size left ≡ answer_outcome (refusal_line number) kept
+  refused_as : (n : ℕ) (r : Refusal) {size : ℕ} {kept left : List ℕ} → outcome (told (Err r)) kept ≡ call n → outcome size left ≡ answer_outcome (refusal_line (refusal_number r)) kept
       → outcome size left ≡ answer_outcome (answer_of n (bytes_listing input)) out
-  refused_by zero number e line =
+  refused_as zero r e line =
       let l = ap (λ (o : Outcome Told). o.answer.length) e in
       absurd (omega (arith, head_at_least (length input / 2)))
-  refused_by (suc n) number e line =
-      let r = ap (λ (o : Outcome Told). o.answer.refused) e in
+  refused_as (suc n) r e line =
+      let n = ap (λ (o : Outcome Told). o.answer.refused) e in
       let k = ap (λ (o : Outcome Told). o.buffer) e in
-      line ∙ (λ i. answer_outcome (refusal_line (r i)) (k i))
+      line ∙ (λ i. answer_outcome (refusal_line (n i)) (k i))
 
-  pub written-answer : {size : ℕ} {left : List ℕ} → outcome (told (Written size)) left ≡ bytes_outcome input out → outcome size left ≡ program_outcome true input out
+  pub written-answer : {size : ℕ} {left : List ℕ} → outcome (told (Ok size)) left ≡ bytes_outcome input out → outcome size left ≡ program_outcome true input out
   unfolding bytes_outcome program_outcome program_answer program_refusal
   written-answer e = served_by (bytes_refusal (length input) (length out)) refl e
 
-  pub refused-answer : (number : ℕ) {size : ℕ} {kept left : List ℕ} → outcome (told (Refused number)) kept ≡ bytes_outcome input out → outcome size left ≡ answer_outcome (refusal_line number) kept
+  pub refused-answer : (r : Refusal) {size : ℕ} {kept left : List ℕ} → outcome (told (Err r)) kept ≡ bytes_outcome input out → outcome size left ≡ answer_outcome (refusal_line (refusal_number r)) kept
       → outcome size left ≡ program_outcome true input out
   unfolding bytes_outcome program_outcome program_answer program_refusal
-  refused-answer number e line = refused_by (bytes_refusal (length input) (length out)) number e line
+  refused-answer r e line = refused_as (bytes_refusal (length input) (length out)) r e line
 
   pub not_whole : {size : ℕ} {left : List ℕ} → outcome size left ≡ answer_outcome (refusal_line 6) out → outcome size left ≡ program_outcome false input out
   unfolding program_outcome program_answer program_refusal

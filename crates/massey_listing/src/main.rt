@@ -7,7 +7,8 @@ ghost use Rattle.encoding.specs.Answer.{outcome};
 ghost use Rattle.massey_listing.specs.Answer.{program_outcome};
 
 use answer::{first, put_refusal, read_input};
-use listing::{Listed, list_bytes};
+use encoding::Refusal;
+use listing::list_bytes;
 use std::io::{Result, Write};
 
 // The bytes that decide every answer: one word more than an image may have. What is longer is
@@ -22,12 +23,11 @@ fn put_answer(input: &[u8], whole: bool, out: &mut [u8]) -> usize
     ensures { outcome result out.new ≡ program_outcome whole input.now out.old }
 {
     if !whole {
-        return put_refusal(out, 6);
+        return put_refusal(out, Refusal::InputLength.number());
     }
-    let listed = list_bytes(input, out);
-    match listed {
-        Listed::Written(size) => size,
-        Listed::Refused(number) => put_refusal(out, number),
+    match list_bytes(input, out) {
+        Ok(size) => size,
+        Err(refusal) => put_refusal(out, refusal.number()),
     }
 }
 

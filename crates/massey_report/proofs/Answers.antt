@@ -7,12 +7,14 @@ use mathlib.Core.Bool.{Bool, true, false}
 use mathlib.Core.List.{List}
 use lib.ListN.{length}
 use Rattle.encoding.specs.Answer.{Outcome, outcome, Told}
-use Rattle.secret.specs.declared.Reported.TheVariants.{Written, Refused}
+use Rattle.encoding.specs.declared.refusal.Refusal.{Refusal}
+use Rattle.encoding.specs.Refusal.{refusal_number, told}
+use Rattle.std.specs.Prelude.{Ok, Err}
 use Rattle.secret.specs.Report.{report_bytes}
-use Rattle.secret.specs.Outcome as reporting
 use Rattle.secret.specs.Program.{input_of, bytes_refusal, bytes_outcome}
 use Rattle.secret.proofs.Lengths.{report_fits}
 use Rattle.secret.proofs.Programs.{bytes_accepted, bytes_left, bytes_report, bytes-kept, bytes-written, bytes-number}
+use Rattle.secret.proofs.Calls.{refusal-some}
 use Rattle.secret.proofs.Theorem.{demand_three_bytes}
 use Rattle.answer.specs.Line.{refusal_line}
 use Rattle.answer.specs.Answer.{answer_of, answer_outcome}
@@ -46,19 +48,19 @@ module _ (b out : List ℕ) {whole : Bool} (w : whole ≡ true) where
   fits e = let f = report_fits (input_of b) (length out) (bytes_accepted b (length out) e) in omega arith
 
   -- the call on bytes told a length
-  pub written-answer : {n : ℕ} {o : List ℕ} → outcome (reporting.told (Written n)) o ≡ bytes_outcome b out → outcome n o ≡ program_outcome whole b out
+  pub written-answer : {n : ℕ} {o : List ℕ} → outcome (told (Ok n)) o ≡ bytes_outcome b out → outcome n o ≡ program_outcome whole b out
   written-answer {n} {o} h =
       let e = bytes-written b out h in
       let q = h ∙ bytes_left b out e in
       fitting (report_bytes (input_of b)) out (fits e) (ap (λ (x : Outcome Told). x.answer.length) q) (ap (λ (x : Outcome Told). x.buffer) q)
       ∙ ap (λ (x : List ℕ). answer_outcome x out) (sym (report_answer e))
 
-  -- it told a number, and left the buffer o as it was
-  pub refused-answer : {n : ℕ} {o : List ℕ} → outcome (reporting.told (Refused n)) o ≡ bytes_outcome b out → answer_outcome (refusal_line n) o ≡ program_outcome whole b out
-  refused-answer {n} {o} h =
-      let e = bytes-number b out h in
-      let kept : o ≡ out = ap (λ (x : Outcome Told). x.buffer) h ∙ bytes-kept b out (λ z. e.1 (e.0 ∙ z)) in
-      let line = line-answer whole b (length out) (e.0 ∙ rw w) e.1 in
+  -- it told a refusal, and left the buffer o as it was
+  pub refused-answer : (r : Refusal) {o : List ℕ} → outcome (told (Err r)) o ≡ bytes_outcome b out → answer_outcome (refusal_line (refusal_number r)) o ≡ program_outcome whole b out
+  refused-answer r {o} h =
+      let e = bytes-number b out r h in
+      let kept : o ≡ out = ap (λ (x : Outcome Told). x.buffer) h ∙ bytes-kept b out (λ z. refusal-some r (e ∙ z)) in
+      let line = line-answer whole b (length out) (e ∙ rw w) (refusal-some r) in
       rw kept (ap (λ (x : List ℕ). answer_outcome x out) (sym line))
 
 -- ---- what is handed to `write`

@@ -7,7 +7,7 @@ ghost use Rattle.encoding.specs.Answer.{outcome};
 ghost use Rattle.massey_report.specs.Answer.{program_outcome};
 
 use answer::{first, put_refusal, read_input};
-use report::{INPUT_LENGTH, REPORT_LENGTH, Reported, report_bytes};
+use report::{INPUT_LENGTH, REPORT_LENGTH, report_bytes};
 use std::io::{Result, Write};
 
 // Puts the answer to an input at the start of `out`, where it fits; what is answered is its length.
@@ -19,10 +19,9 @@ fn put_answer(input: &[u8], whole: bool, out: &mut [u8]) -> usize
     if !whole {
         return put_refusal(out, 6);
     }
-    let reported = report_bytes(input, out);
-    match reported {
-        Reported::Written(size) => size,
-        Reported::Refused(number) => put_refusal(out, number),
+    match report_bytes(input, out) {
+        Ok(size) => size,
+        Err(refusal) => put_refusal(out, refusal.number()),
     }
 }
 

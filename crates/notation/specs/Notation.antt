@@ -1,13 +1,11 @@
 -- Numbers and registers in other notations (isa.rs, `format_hex`, `parse_register`, `to_signed`, `binary_grouped`).
 -- Assumes nothing.
-use Rattle.std.specs.Prelude.{ℕ, ◌+◌, ◌-◌, ◌/◌, ◌%◌, max, min, cond, List, [], ◌∷◌, ◌++◌, eqb, ltb, ℤ, pos, negsuc, length, get_or, drop, replicate}
+use Rattle.std.specs.Prelude.{ℕ, ◌+◌, ◌-◌, ◌/◌, ◌%◌, max, min, cond, List, [], ◌∷◌, ◌++◌, eqb, ltb, ℤ, pos, negsuc, length, get_or, drop, replicate, None, Option, Some}
 use Prim.Native.Char.{code}
 use Rattle.isa.specs.Sizes.{text_width}
 use Rattle.isa.specs.Text.{ascii}
 use Rattle.isa.specs.Word.{digit_w, digit_x, digit_y, digit_z}
 use Rattle.isa.specs.Format.{hex4}
-use Rattle.isa.specs.declared.digits.ByteOption.{ByteOption}
-use Rattle.isa.specs.declared.digits.ByteOption.TheVariants.{Some, None}
 
 -- how many digits a word takes without zeros in front
 abbrev pub hex_length : ℕ → ℕ
@@ -22,7 +20,7 @@ unfoldable pub format_hex : ℕ → ℕ → List ℕ
 format_hex w digits = drop (text_width - hex_width w digits) (replicate 28 (code "0") ++ hex4 w)
 
 -- the value of a hexadecimal digit in either case
-unfoldable pub digit_value : ℕ → ByteOption
+unfoldable pub digit_value : ℕ → Option ℕ
 digit_value d =
     cond (ltb d (code "0")) None
     (cond (ltb d (code "9" + 1)) (Some (d - code "0"))
@@ -33,7 +31,7 @@ digit_value d =
     None)))))
 
 -- a register's name in either case: R and one digit, and nothing else
-unfoldable pub parse_register : List ℕ → ByteOption
+unfoldable pub parse_register : List ℕ → Option ℕ
 parse_register s =
     cond (eqb (length s) 2)
     (cond (eqb (get_or s 0 0) (code "R")) (digit_value (get_or s 1 0))

@@ -7,33 +7,25 @@ ghost use Rattle.isa.specs.Text.{text};
 ghost use Rattle.notation.specs.Notation.{hex_length, hex_width, format_hex};
 ghost use Rattle.notation.specs.Notation.{digit_value, parse_register, signed_of, bits4, binary_grouped};
 
-use isa::{ByteOption, Text, format};
+use isa::{TEXT_WIDTH, Text, format};
 
 // How many digits a value takes without zeros in front.
 fn hex_length(value: u16) -> usize
     ensures { (result ≡ hex_length value) × (result ≤ 4) }
 {
-    if value < 16 {
-        return 1;
+    match value {
+        0x0..=0xF => 1,
+        0x10..=0xFF => 2,
+        0x100..=0xFFF => 3,
+        _ => 4,
     }
-    if value < 256 {
-        return 2;
-    }
-    if value < 4096 {
-        return 3;
-    }
-    4
 }
 
 // How many digits are written: those asked for, at most 32, and never fewer than the value takes.
 fn hex_width(value: u16, digits: usize) -> usize
     ensures { (result ≡ hex_width value digits) × (result ≤ 32) }
 {
-    let needed = hex_length(value);
-    if 32 < digits {
-        return 32;
-    }
-    if digits < needed { needed } else { digits }
+    digits.min(TEXT_WIDTH).max(hex_length(value))
 }
 
 // Format a value as a hexadecimal number of at least `digits` digits; over 32 count as 32.
@@ -46,57 +38,35 @@ pub fn format_hex(value: u16, digits: usize) -> Text
 }
 
 // The value of a hexadecimal digit in either case.
-fn digit_value(d: u8) -> ByteOption
+#[tactic(auto, unfolding(crate::specs::Notation::digit_value))]
+fn digit_value(d: u8) -> Option<u8>
     ensures { result ≡ digit_value d }
 {
-    if d < b'0' {
-        return ByteOption::None;
+    match d {
+        b'0'..=b'9' => Some(d - b'0'),
+        b'A'..=b'F' => Some(d - b'A' + 10),
+        b'a'..=b'f' => Some(d - b'a' + 10),
+        _ => None,
     }
-    if d < b'9' + 1 {
-        return ByteOption::Some(d - b'0');
-    }
-    if d < b'A' {
-        return ByteOption::None;
-    }
-    if d < b'F' + 1 {
-        return ByteOption::Some(d - b'A' + 10);
-    }
-    if d < b'a' {
-        return ByteOption::None;
-    }
-    if d < b'f' + 1 {
-        return ByteOption::Some(d - b'a' + 10);
-    }
-    ByteOption::None
 }
 
 // Parse a register name such as R0, Ra or rF into its index. Register 10 is RA, never R10.
-pub fn parse_register(text: &[u8]) -> ByteOption
+#[tactic(auto, unfolding(crate::specs::Notation::parse_register))]
+pub fn parse_register(text: &[u8]) -> Option<u8>
     ensures { result ≡ parse_register text.now }
 {
-    if text.len() != 2 {
-        return ByteOption::None;
+    match text {
+        [b'R' | b'r', digit] => digit_value(*digit),
+        _ => None,
     }
-    let first = text[0];
-    let second = text[1];
-    if first == b'R' {
-        return digit_value(second);
-    }
-    if first == b'r' {
-        return digit_value(second);
-    }
-    ByteOption::None
 }
 
 // Interpret a 16-bit register value as a signed 2's complement integer.
+#[tactic(auto, unfolding(crate::specs::Notation::signed_of))]
 pub fn to_signed(value: u16) -> i16
     ensures { result ≡ signed_of value }
 {
-    if value < 32768 {
-        return value as i16;
-    }
-    let below = (65535 - value) as i16;
-    -1 - below
+    value.cast_signed()
 }
 
 // The four bits of a digit, high first.
@@ -112,6 +82,7 @@ fn bits_4(d: u8) -> [u8; 4]
 }
 
 // Render a 16-bit value in binary with a space every four bits.
+#[tactic(auto, unfolding(crate::specs::Notation::binary_grouped))]
 pub fn binary_grouped(value: u16) -> Text
     ensures { result ≡ text (binary_grouped value) }
 {

@@ -3,7 +3,7 @@
 use mathlib.Core.Path.{◌≡◌, refl}
 use mathlib.Core.List.{map}
 use lib.ListN.{length}
-use Rattle.isa.specs.Text.{padded, text}
+use Rattle.isa.specs.Text.{fixed_text, padded}
 use Rattle.isa.specs.Opcode.{digits, decode_nibble}
 use Rattle.isa.specs.Format.{fill}
 use Rattle.encoding.specs.Bytes.{over, big_endian, big_endians, number, numbers, member}
@@ -21,7 +21,7 @@ use Rattle.vm.specs.Machine.{micro_step, next_text}
 use Rattle.vm.specs.Instruction.{step_instruction, steps, ticked}
 use Rattle.vm.specs.Run.{run as run_of}
 use Rattle.vm.specs.Refusal.{parts_ok, step_refusal}
-use Rattle.vm.specs.Calls.{restarted, image_words, serve}
+use Rattle.vm.specs.Calls.{restarted, image_words}
 use Rattle.vm.specs.StepCalls.{micro_effect}
 use Rattle.vm.specs.RunCalls.{run_call}
 use Rattle.vm.specs.History.{store_refusal, undo_refusal, saved, saved_store, restored, undone}
@@ -31,7 +31,7 @@ use Rattle.past.specs.Examples.{program, start, Row, seen, rows}
 use Rattle.past.proofs.Holds.{every_list}
 
 pub rows_hold : map (λ (r : Row). seen r.calls) rows ≡ map (λ (r : Row). r.answer) rows
-unfolding rows seen played ticks_of after holding start left made count ticks_from instructions_ticks padded text digits decode_nibble fill over big_endian big_endians number numbers member fetch_text load_text store_text execute_text tick_template tick_text fault_bytes over_counted count_tick lawful decode_tick execute_tick tick_of pushed slots live_trace live_lengths short_texts noted distinct front_bytes state_bytes count_bytes memory_bytes record_bytes control_in snapshot_in is_record record_in record_at with_record push_store newest differ differences_of micro_step next_text step_instruction steps ticked run_of parts_ok step_refusal restarted image_words serve micro_effect run_call store_refusal undo_refusal saved saved_store restored undone
+unfolding rows seen played ticks_of after holding start left made count ticks_from instructions_ticks padded fixed_text digits decode_nibble fill over big_endian big_endians number numbers member fetch_text load_text store_text execute_text tick_template tick_text fault_bytes over_counted count_tick lawful decode_tick execute_tick tick_of pushed slots live_trace live_lengths short_texts noted distinct front_bytes state_bytes count_bytes memory_bytes record_bytes control_in snapshot_in is_record record_in record_at with_record push_store newest differ differences_of micro_step next_text step_instruction steps ticked run_of parts_ok step_refusal restarted image_words micro_effect run_call store_refusal undo_refusal saved saved_store restored undone
 rows_hold = refl
 
 -- the totals of each are those of the theorem

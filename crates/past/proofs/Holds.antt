@@ -1,5 +1,7 @@
 -- Every list of calls has a past (`specs/Played.antt`): the struct that is said to hold a machine holds it.
 -- Assumes nothing.
+use Rattle.std.specs.Prelude.{Result, Ok, Err}
+use Rattle.encoding.specs.declared.refusal.Refusal.{Refusal}
 use Prim.Native.Nat.{ℕ, zero, suc, ◌+◌, ◌-◌, ◌*◌, ◌≤◌, ◌<◌}
 use native.Mathlib.Omega.{arith}
 use mathlib.Core.Path.{◌≡◌, refl, ap, sym, subst, ◌∙◌}
@@ -16,15 +18,15 @@ use Rattle.trace.specs.Trace.{trace_limit, addresses_at, record_at, live_in, pus
 use Rattle.vm.specs.declared.machine.Machine.{Machine as Code}
 use Rattle.vm.specs.Machine.{Machine, operands_of, next_text, micro_step}
 use Rattle.vm.specs.Instruction.{Steps, started, ticked, unless_zero, steps, step_instruction}
+use Rattle.std.proofs.Common.{Option, Some, None, is_some}
+use Rattle.history.specs.declared.snapshot.Snapshot.{Snapshot}
 use Rattle.history.specs.Store.{newest}
 use Rattle.guard.specs.declared.stops.RunStop.{RunStop}
 use Rattle.guard.specs.declared.stops.RunStop.TheVariants.{Budget}
 use Rattle.guard.specs.Stops.{Verdict, go as going, stop, after as turn}
-use Rattle.vm.specs.declared.micro.MicroOp.{MicroOp}
-use Rattle.vm.specs.declared.step.InstructionReport.{InstructionReport}
-use Rattle.vm.specs.StepCalls.{Effect, micro_effect, step_effect}
+use Rattle.vm.specs.StepCalls.{effect_if, micro_effect, step_effect}
 use Rattle.vm.specs.RunCalls.{run_call}
-use Rattle.vm.specs.History.{store_refusal, undo_refusal, saved, restored, undone}
+use Rattle.vm.specs.History.{store_refusal, undo_refusal, saved, restored, restored_by, undone}
 use Rattle.vm.specs.Run.{verdict, RunEnd, run_end, run as run_of}
 use Rattle.vm.specs.Calls.{view_of, is_machine, step_refusal_of, restarted, serve}
 use Rattle.vm.proofs.Forgets.{few-pushed}
@@ -190,12 +192,12 @@ run_traced : (b : List ℕ) (k n : ℕ) (m : Machine) → Traced m.trace → Tra
 unfolding run_of
 run_traced b k zero m h = go (verdict b k 0 m)
   where
-    go : (v : Verdict RunStop) → Traced (turn v (run_end k m) (λ u. run_end k m Budget)).machine.trace
+    go : (v : Verdict (Result RunStop Refusal)) → Traced (turn v (run_end k m) (λ u. run_end k m (Ok Budget))).machine.trace
     go going = h
     go (stop c) = h
 run_traced b k (suc n) m h = go (verdict b k (suc n) m) (run_traced b (k + 1) n (step_instruction m).machine (instruction_traced m h))
   where
-    go : (v : Verdict RunStop) → Traced (run_of b (k + 1) n (step_instruction m).machine).machine.trace → Traced (turn v (run_end k m) (λ u. run_of b (k + 1) n (step_instruction m).machine)).machine.trace
+    go : (v : Verdict (Result RunStop Refusal)) → Traced (run_of b (k + 1) n (step_instruction m).machine).machine.trace → Traced (turn v (run_end k m) (λ u. run_of b (k + 1) n (step_instruction m).machine)).machine.trace
     go going i = i
     go (stop c) i = h
 
@@ -203,13 +205,28 @@ either : {A : Type 0} (P : A → Type 0) (b : Bool) {x y : A} → P x → P y �
 either P true p q = p
 either P false p q = q
 
+-- an undo leaves the trace
+undone_traced : (r : Option Snapshot) (m : Code) → Traced (view_of m).trace → Traced (view_of (restored_by r m)).trace
+unfolding restored
+undone_traced None m h = h
+undone_traced (Some s) m h = h
+
+effect_traced : {A : Type 0} (r : Result (Unit {0}) Refusal) (h : Bool) (still moving : A) (m next : Machine) → Traced m.trace → Traced next.trace → Traced (effect_if r h still moving m next).machine.trace
+effect_traced (Ok u) true still moving m next p q = p
+effect_traced (Ok u) false still moving m next p q = q
+effect_traced (Err e) h still moving m next p q = p
+
+serve_traced : (r : Result (Unit {0}) Refusal) (new old : Code) → Traced (view_of new).trace → Traced (view_of old).trace → Traced (view_of (serve r new old).machine).trace
+serve_traced (Ok u) new old p q = p
+serve_traced (Err e) new old p q = q
+
 left_traced : (c : Call) (m : Code) → Traced (view_of m).trace → Traced (left c m).trace
-unfolding left micro_effect step_effect run_call saved undone restored serve
-left_traced tick m h = let P : Effect MicroOp → Type 0 = λ e. Traced e.machine.trace in either P (eqb (step_refusal_of m) 0) (either P m.state.control.halted h (tick_traced (view_of m) h)) h
-left_traced step m h = let P : Effect InstructionReport → Type 0 = λ e. Traced e.machine.trace in either P (eqb (step_refusal_of m) 0) (either P m.state.control.halted h (instruction_traced (view_of m) h)) h
+unfolding left micro_effect step_effect run_call saved undone
+left_traced tick m h = effect_traced (step_refusal_of m) m.state.control.halted _ _ _ _ h (tick_traced (view_of m) h)
+left_traced step m h = effect_traced (step_refusal_of m) m.state.control.halted _ _ _ _ h (instruction_traced (view_of m) h)
 left_traced (run b n) m h = let P : RunEnd → Type 0 = λ e. Traced e.machine.trace in either P (is_machine m) (either P m.state.control.halted h (run_traced b 0 n (view_of m) h)) h
-left_traced (push d) m h = let P : Code → Type 0 = λ n. Traced (view_of n).trace in either P (eqb (store_refusal (length d) m) 0) h h
-left_traced (undo d) m h = let P : Code → Type 0 = λ n. Traced (view_of n).trace in either P (eqb (undo_refusal (length d) (newest d m.history_len).good m) 0) h h
+left_traced (push d) m h = serve_traced (store_refusal (length d) m) _ m h h
+left_traced (undo d) m h = serve_traced (undo_refusal (length d) (is_some (newest d m.history_len)) m) _ m (undone_traced (newest d m.history_len) m h) h
 
 -- ---- every list
 

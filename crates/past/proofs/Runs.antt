@@ -1,5 +1,7 @@
 -- What a run adds to the bus counters: the ticks of the instructions that it begins. One law for `run` and for the guarded run.
 -- Assumes nothing.
+use Rattle.std.specs.Prelude.{Result}
+use Rattle.encoding.specs.declared.refusal.Refusal.{Refusal}
 use Prim.Native.Nat.{ℕ, zero, suc, ◌+◌, ◌-◌, ◌*◌}
 use native.Mathlib.Omega.{arith}
 use mathlib.Core.Path.{◌≡◌, refl, ap, ◌∙◌}
@@ -91,7 +93,7 @@ counted false false false true s e = absurd (let x : ◌≡◌ {A = ℕ} 0 1 = c
 uncounted : (b : List ℕ) (k n : ℕ) (m : Machine) → verdict b k n m ≡ go → over_counted m.counters ≡ false
 uncounted b k n m e = counted m.state.control.halted (reached b k m.state.control.pc) (eqb n 0) (over_counted m.counters) m.state e
 
-run_loop : (b : List ℕ) → Loop RunStop RunEnd Machine
+run_loop : (b : List ℕ) → Loop (Result RunStop Refusal) RunEnd Machine
 run_loop b = record {
   run = run b;
   verdict = verdict b;

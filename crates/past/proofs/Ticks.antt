@@ -1,5 +1,7 @@
 -- What a tick, an instruction and a run add to the bus counters.
 -- Assumes nothing.
+use Rattle.std.specs.Prelude.{None, Option, Some}
+use Rattle.isa.specs.declared.opcode.Opcode.{Opcode}
 use Prim.Native.Nat.{ℕ, zero, suc, ◌+◌, ◌^◌, ◌≤◌, ◌<◌}
 use native.Mathlib.Omega.{arith}
 use mathlib.Core.Path.{◌≡◌, refl}
@@ -8,12 +10,10 @@ use mathlib.Core.List.{List, [], ◌∷◌, ◌++◌}
 use borrow.Author.Tests.{ltb-false, ne_eqb}
 use lib.Dec.{eqb, leb}
 use Rattle.isa.specs.declared.opcode.Opcode.TheVariants.{LoadImmediate, LoadRegister, LoadMemory, StoreMemory, Add, Negate, ShiftRight, ShiftLeft, And, Or, Xor, Jump, Halt}
-use Rattle.isa.specs.declared.opcode.Decoded.{Decoded}
-use Rattle.isa.specs.declared.opcode.Decoded.TheVariants.{Known, Unknown}
 use Rattle.isa.specs.Word.{decode_word}
 use Rattle.plan.specs.Plan.{execute_ticks_of}
 use Rattle.control.specs.declared.control.BusTransfer.{BusTransfer}
-use Rattle.control.specs.declared.control.BusTransfer.TheVariants.{Idle, Read, Write}
+use Rattle.control.specs.declared.control.BusTransfer.TheVariants.{Read, Write}
 use Rattle.control.specs.declared.control.State.{State}
 use Rattle.control.specs.declared.control.Operands.{Operands}
 use Rattle.control.specs.declared.control.Tick.{Tick}
@@ -31,18 +31,18 @@ use Rattle.past.specs.Past.{is_opcode, second_fetch, second_load, third_store, c
 
 -- ---- which transfer a tick makes
 
-abbrev read_of : BusTransfer → ℕ
-read_of Idle = 0
-read_of (Read a v) = 1
-read_of (Write a v) = 0
+abbrev read_of : Option BusTransfer → ℕ
+read_of None = 0
+read_of (Some (Read a v)) = 1
+read_of (Some (Write a v)) = 0
 
-abbrev write_of : BusTransfer → ℕ
-write_of Idle = 0
-write_of (Read a v) = 0
-write_of (Write a v) = 1
+abbrev write_of : Option BusTransfer → ℕ
+write_of None = 0
+write_of (Some (Read a v)) = 0
+write_of (Some (Write a v)) = 1
 
 -- the transfer of the tick with that number, by what the word in IR is
-record Kind (b : BusTransfer) (t : ℕ) (d : Decoded) : Type 0 where
+record Kind (b : Option BusTransfer) (t : ℕ) (d : Option Opcode) : Type 0 where
   read : read_of b ≡ cond (second_fetch t d) 1 0 + cond (second_load t d) 1 0
   write : write_of b ≡ cond (third_store t d) 1 0
 
@@ -51,46 +51,46 @@ no_and true = refl
 no_and false = refl
 
 -- the fetch ticks, whatever the word
-fetch_kind : (b : BusTransfer) (t : ℕ) (d : Decoded) → t ≤ 3 → read_of b ≡ cond (second_fetch t d) 1 0 → write_of b ≡ 0 → Kind b t d
+fetch_kind : (b : Option BusTransfer) (t : ℕ) (d : Option Opcode) → t ≤ 3 → read_of b ≡ cond (second_fetch t d) 1 0 → write_of b ≡ 0 → Kind b t d
 fetch_kind b t d h r w = let e : (n : ℕ) → 4 ≤ n → eqb t n ≡ false = λ n l. ne_eqb t n (λ z. omega arith) in record {
   read = rw (e 5 (omega arith), no_and (is_opcode LoadMemory d)) (omega (arith, r));
   write = rw (e 6 (omega arith), no_and (is_opcode StoreMemory d)) w;
 }
 
-decode_idle : (d : Decoded) (s : State) → (decode_as d s).bus ≡ Idle
-decode_idle Unknown s = refl
-decode_idle (Known o) s = go (is_halt o)
+decode_idle : (d : Option Opcode) (s : State) → (decode_as d s).bus ≡ None
+decode_idle None s = refl
+decode_idle (Some o) s = go (is_halt o)
   where
-    go : (h : Bool) → let c = next_pc (execute_ticks_of (Known o)) s.control in (cond h (halting_tick s c) (plain (with_control (to_tick 4 c) s))).bus ≡ Idle
+    go : (h : Bool) → let c = next_pc (execute_ticks_of (Some o)) s.control in (cond h (halting_tick s c) (plain (with_control (to_tick 4 c) s))).bus ≡ None
     go true = refl
     go false = refl
 
 -- an execute tick of a word that uses no bus
-idle : (d : Decoded) (n : ℕ) {b : BusTransfer} → is_opcode LoadMemory d ≡ false → is_opcode StoreMemory d ≡ false → b ≡ Idle → Kind b (suc (suc (suc (suc n)))) d
+idle : (d : Option Opcode) (n : ℕ) {b : Option BusTransfer} → is_opcode LoadMemory d ≡ false → is_opcode StoreMemory d ≡ false → b ≡ None → Kind b (suc (suc (suc (suc n)))) d
 idle d n l s e = let t : eqb (suc (suc (suc (suc n)))) 1 ≡ false = ne_eqb (suc (suc (suc (suc n)))) 1 (λ z. omega (arith, z)) in record { read = rw (e, t, l); write = rw (e, s) }
 
-execute_kind : (d : Decoded) (n : ℕ) (s : State) (o : Operands) → n ≤ 2 → Kind (execute_tick d n s o).bus (suc (suc (suc (suc n)))) d
+execute_kind : (d : Option Opcode) (n : ℕ) (s : State) (o : Operands) → n ≤ 2 → Kind (execute_tick d n s o).bus (suc (suc (suc (suc n)))) d
 unfolding execute_tick
-execute_kind (Known LoadImmediate) n s o h = idle (Known LoadImmediate) n refl refl refl
-execute_kind (Known LoadRegister) n s o h = idle (Known LoadRegister) n refl refl refl
-execute_kind (Known LoadMemory) zero s o h = record { read = refl; write = refl }
-execute_kind (Known LoadMemory) (suc zero) s o h = record { read = refl; write = refl }
-execute_kind (Known LoadMemory) (suc (suc zero)) s o h = record { read = refl; write = refl }
-execute_kind (Known LoadMemory) (suc (suc (suc n))) s o h = absurd (omega arith)
-execute_kind (Known StoreMemory) zero s o h = record { read = refl; write = refl }
-execute_kind (Known StoreMemory) (suc zero) s o h = record { read = refl; write = refl }
-execute_kind (Known StoreMemory) (suc (suc zero)) s o h = record { read = refl; write = refl }
-execute_kind (Known StoreMemory) (suc (suc (suc n))) s o h = absurd (omega arith)
-execute_kind (Known Add) n s o h = idle (Known Add) n refl refl refl
-execute_kind (Known Negate) n s o h = idle (Known Negate) n refl refl refl
-execute_kind (Known ShiftRight) n s o h = idle (Known ShiftRight) n refl refl refl
-execute_kind (Known ShiftLeft) n s o h = idle (Known ShiftLeft) n refl refl refl
-execute_kind (Known And) n s o h = idle (Known And) n refl refl refl
-execute_kind (Known Or) n s o h = idle (Known Or) n refl refl refl
-execute_kind (Known Xor) n s o h = idle (Known Xor) n refl refl refl
-execute_kind (Known Jump) n s o h = idle (Known Jump) n refl refl refl
-execute_kind (Known Halt) n s o h = idle (Known Halt) n refl refl refl
-execute_kind Unknown n s o h = idle Unknown n refl refl refl
+execute_kind (Some LoadImmediate) n s o h = idle (Some LoadImmediate) n refl refl refl
+execute_kind (Some LoadRegister) n s o h = idle (Some LoadRegister) n refl refl refl
+execute_kind (Some LoadMemory) zero s o h = record { read = refl; write = refl }
+execute_kind (Some LoadMemory) (suc zero) s o h = record { read = refl; write = refl }
+execute_kind (Some LoadMemory) (suc (suc zero)) s o h = record { read = refl; write = refl }
+execute_kind (Some LoadMemory) (suc (suc (suc n))) s o h = absurd (omega arith)
+execute_kind (Some StoreMemory) zero s o h = record { read = refl; write = refl }
+execute_kind (Some StoreMemory) (suc zero) s o h = record { read = refl; write = refl }
+execute_kind (Some StoreMemory) (suc (suc zero)) s o h = record { read = refl; write = refl }
+execute_kind (Some StoreMemory) (suc (suc (suc n))) s o h = absurd (omega arith)
+execute_kind (Some Add) n s o h = idle (Some Add) n refl refl refl
+execute_kind (Some Negate) n s o h = idle (Some Negate) n refl refl refl
+execute_kind (Some ShiftRight) n s o h = idle (Some ShiftRight) n refl refl refl
+execute_kind (Some ShiftLeft) n s o h = idle (Some ShiftLeft) n refl refl refl
+execute_kind (Some And) n s o h = idle (Some And) n refl refl refl
+execute_kind (Some Or) n s o h = idle (Some Or) n refl refl refl
+execute_kind (Some Xor) n s o h = idle (Some Xor) n refl refl refl
+execute_kind (Some Jump) n s o h = idle (Some Jump) n refl refl refl
+execute_kind (Some Halt) n s o h = idle (Some Halt) n refl refl refl
+execute_kind None n s o h = idle None n refl refl refl
 
 onward-bus : (n : ℕ) (t : Tick) → (onward n t).bus ≡ t.bus
 onward-bus n t = go (leb t.state.control.execute_ticks (n + 1))
@@ -104,7 +104,7 @@ unfolding tick_of decode_tick
 tick_kind zero s o h = fetch_kind _ 0 _ (omega arith) refl refl
 tick_kind (suc zero) s o h = fetch_kind _ 1 _ (omega arith) refl refl
 tick_kind (suc (suc zero)) s o h = fetch_kind _ 2 _ (omega arith) refl refl
-tick_kind (suc (suc (suc zero))) s o h = let d = decode_word s.control.ir in rw (decode_idle d s) (fetch_kind Idle 3 d (omega arith) refl refl)
+tick_kind (suc (suc (suc zero))) s o h = let d = decode_word s.control.ir in rw (decode_idle d s) (fetch_kind None 3 d (omega arith) refl refl)
 tick_kind (suc (suc (suc (suc n)))) s o h = let d = decode_word s.control.ir in rw (onward-bus n (execute_tick d n s o)) (execute_kind d n s o (omega arith))
 
 -- ---- what ticks add to the bus counters
@@ -125,20 +125,20 @@ pub record Runs (m : Machine) : Type 0 where
   pub on : m.state.control.halted ≡ false
 
 -- the transfer's own counts
-record Counted (b : BusTransfer) (k j : Counters) : Type 0 where
+record Counted (b : Option BusTransfer) (k j : Counters) : Type 0 where
   reads : j.bus_reads ≡ k.bus_reads + read_of b
   writes : j.bus_writes ≡ k.bus_writes + write_of b
 
-counts : (b : BusTransfer) (c : Bool) (k : Counters) (n : ℕ) → Room (suc n) k → Counted b k (count_tick b c k)
+counts : (b : Option BusTransfer) (c : Bool) (k : Counters) (n : ℕ) → Room (suc n) k → Counted b k (count_tick b c k)
 unfolding count_tick
-counts Idle c k n h = record { reads = omega arith; writes = omega arith }
-counts (Read a v) c k n h = record { reads = omega (arith, h.reads); writes = omega arith }
-counts (Write a v) c k n h = record { reads = omega arith; writes = omega (arith, h.writes) }
+counts None c k n h = record { reads = omega arith; writes = omega arith }
+counts (Some (Read a v)) c k n h = record { reads = omega (arith, h.reads); writes = omega arith }
+counts (Some (Write a v)) c k n h = record { reads = omega arith; writes = omega (arith, h.writes) }
 
-few : (b : BusTransfer) → (read_of b ≤ 1) × (write_of b ≤ 1)
-few Idle = (omega arith, omega arith)
-few (Read a v) = (omega arith, omega arith)
-few (Write a v) = (omega arith, omega arith)
+few : (b : Option BusTransfer) → (read_of b ≤ 1) × (write_of b ≤ 1)
+few None = (omega arith, omega arith)
+few (Some (Read a v)) = (omega arith, omega arith)
+few (Some (Write a v)) = (omega arith, omega arith)
 
 module _ (n : ℕ) (m : Machine) (r : Runs m) (h : Room (suc n) m.counters) where
   kind : Kind (next_tick m).bus m.state.control.tick (decode_word m.state.control.ir)
@@ -155,7 +155,7 @@ module _ (n : ℕ) (m : Machine) (r : Runs m) (h : Room (suc n) m.counters) wher
   tick-room : Room n (micro_step m).counters
   tick-room = let f = few (next_tick m).bus in record { reads = omega (arith, h.reads, counted.reads, f.0); writes = omega (arith, h.writes, counted.writes, f.1) }
 
-count_append : (kind : ℕ → Decoded → Bool) (t u : List Machine) → count kind (t ++ u) ≡ count kind t + count kind u
+count_append : (kind : ℕ → Option Opcode → Bool) (t u : List Machine) → count kind (t ++ u) ≡ count kind t + count kind u
 unfolding count
 count_append kind [] u = omega arith
 count_append kind (m ∷ t) u = omega (arith, count_append kind t u)

@@ -1,11 +1,9 @@
 -- Bus totals over the whole past (02, Change 5): which ticks use the bus, which ticks each call makes, and a machine's past, which is the calls since a reset.
 -- A tick is told by the machine before it. Nothing here looks at a bus counter or at a transfer.
 -- Assumes nothing.
-use Rattle.std.specs.Prelude.{ℕ, zero, suc, ◌+◌, ◌≡◌, Bool, false, cond, not, ◌&&◌, List, [], ◌∷◌, ◌++◌, eqb, length}
+use Rattle.std.specs.Prelude.{is_ok, ℕ, zero, suc, ◌+◌, ◌≡◌, Bool, false, cond, not, ◌&&◌, List, [], ◌∷◌, ◌++◌, eqb, length, None, Option, Some}
 use Rattle.isa.specs.declared.opcode.Opcode.{Opcode}
 use Rattle.isa.specs.declared.opcode.Opcode.TheVariants.{LoadMemory, StoreMemory}
-use Rattle.isa.specs.declared.opcode.Decoded.{Decoded}
-use Rattle.isa.specs.declared.opcode.Decoded.TheVariants.{Known, Unknown}
 use Rattle.isa.specs.Opcode.{nibble_of}
 use Rattle.isa.specs.Word.{decode_word}
 use Rattle.control.specs.declared.counters.Counters.{Counters}
@@ -22,22 +20,22 @@ use Rattle.vm.specs.History.{saved, undone}
 -- ---- which ticks use the bus
 
 -- whether what a word says is that opcode
-abbrev pub is_opcode : Opcode → Decoded → Bool
-is_opcode o (Known p) = eqb (nibble_of p) (nibble_of o)
-is_opcode o Unknown = false
+abbrev pub is_opcode : Opcode → Option Opcode → Bool
+is_opcode o (Some p) = eqb (nibble_of p) (nibble_of o)
+is_opcode o None = false
 
 -- by the tick's number and what the word in IR is: the four fetch ticks are 0 to 3, an instruction's own begin at 4
-abbrev pub second_fetch : ℕ → Decoded → Bool
+abbrev pub second_fetch : ℕ → Option Opcode → Bool
 second_fetch t d = eqb t 1
 
-abbrev pub second_load : ℕ → Decoded → Bool
+abbrev pub second_load : ℕ → Option Opcode → Bool
 second_load t d = is_opcode LoadMemory d && eqb t 5
 
-abbrev pub third_store : ℕ → Decoded → Bool
+abbrev pub third_store : ℕ → Option Opcode → Bool
 third_store t d = is_opcode StoreMemory d && eqb t 6
 
 -- how many ticks are of a kind
-unfoldable pub count : (ℕ → Decoded → Bool) → List Machine → ℕ
+unfoldable pub count : (ℕ → Option Opcode → Bool) → List Machine → ℕ
 count kind [] = 0
 count kind (m ∷ t) = let c = m.state.control in cond (kind c.tick (decode_word c.ir)) 1 0 + count kind t
 
@@ -73,7 +71,7 @@ pub data Call : Type 0 where
 
 -- a tick or an instruction is made where it is not refused and the machine is not halted
 abbrev pub moves : Code → Bool
-moves m = eqb (step_refusal_of m) 0 && not m.state.control.halted
+moves m = is_ok (step_refusal_of m) && not m.state.control.halted
 
 -- a run makes those of the instructions that it begins, also where it is refused 9 after some; push and undo make none
 unfoldable pub made : Call → Code → List Machine

@@ -1,10 +1,9 @@
 -- The register transfers of an instruction (01, section 3; vm.rs, `transfer_plan`): how many execute ticks an opcode has, and each tick's text.
 -- Assumes nothing.
-use Rattle.std.specs.Prelude.{ℕ, zero, suc, ◌+◌, Bool, true, cond, List, [], ◌∷◌, ltb}
+use Rattle.std.specs.Prelude.{ℕ, zero, suc, ◌+◌, Bool, true, cond, List, [], ◌∷◌, ltb, None, Option, Some}
+use Rattle.isa.specs.declared.opcode.Opcode.{Opcode}
 use Prim.Native.String.{String}
 use Rattle.isa.specs.declared.opcode.Opcode.TheVariants.{LoadImmediate, LoadRegister, LoadMemory, StoreMemory, Add, Negate, ShiftRight, ShiftLeft, And, Or, Xor, Jump, Halt}
-use Rattle.isa.specs.declared.opcode.Decoded.{Decoded}
-use Rattle.isa.specs.declared.opcode.Decoded.TheVariants.{Known, Unknown}
 use Rattle.isa.specs.Text.{ascii, text}
 use Rattle.isa.specs.Word.{decode_word}
 use Rattle.isa.specs.Format.{fill}
@@ -31,21 +30,21 @@ abbrev pub phase_of : ℕ → Phase
 phase_of t = cond (ltb t 4) Fetch Execute
 
 -- the four fetch ticks are followed by 3 for LOAD [yz] and STORE, 0 for HALT or no opcode, else 1
-abbrev pub execute_ticks_of : Decoded → ℕ
-execute_ticks_of (Known LoadImmediate) = 1
-execute_ticks_of (Known LoadRegister) = 1
-execute_ticks_of (Known LoadMemory) = 3
-execute_ticks_of (Known StoreMemory) = 3
-execute_ticks_of (Known Add) = 1
-execute_ticks_of (Known Negate) = 1
-execute_ticks_of (Known ShiftRight) = 1
-execute_ticks_of (Known ShiftLeft) = 1
-execute_ticks_of (Known And) = 1
-execute_ticks_of (Known Or) = 1
-execute_ticks_of (Known Xor) = 1
-execute_ticks_of (Known Jump) = 1
-execute_ticks_of (Known Halt) = 0
-execute_ticks_of Unknown = 0
+abbrev pub execute_ticks_of : Option Opcode → ℕ
+execute_ticks_of (Some LoadImmediate) = 1
+execute_ticks_of (Some LoadRegister) = 1
+execute_ticks_of (Some LoadMemory) = 3
+execute_ticks_of (Some StoreMemory) = 3
+execute_ticks_of (Some Add) = 1
+execute_ticks_of (Some Negate) = 1
+execute_ticks_of (Some ShiftRight) = 1
+execute_ticks_of (Some ShiftLeft) = 1
+execute_ticks_of (Some And) = 1
+execute_ticks_of (Some Or) = 1
+execute_ticks_of (Some Xor) = 1
+execute_ticks_of (Some Jump) = 1
+execute_ticks_of (Some Halt) = 0
+execute_ticks_of None = 0
 
 -- the texts as templates: the fetch ticks, from 0 on
 unfoldable pub fetch_text : ℕ → String
@@ -65,21 +64,21 @@ store_text (suc zero) = "Rx -> MDR"
 store_text (suc (suc n)) = "MDR -> M[MAR]"
 
 -- execute tick n of an opcode; an untaken JUMP's text has an ending
-unfoldable pub execute_text : Decoded → ℕ → Bool → String
-execute_text (Known LoadImmediate) n taken = "yz -> Rx"
-execute_text (Known LoadRegister) n taken = "Rz -> Ry"
-execute_text (Known LoadMemory) n taken = load_text n
-execute_text (Known StoreMemory) n taken = store_text n
-execute_text (Known Add) n taken = "Ry + Rz -> Rx"
-execute_text (Known Negate) n taken = "~Ry + 1 -> Ry"
-execute_text (Known ShiftRight) n taken = "Rx >> yz -> Rx"
-execute_text (Known ShiftLeft) n taken = "Rx << yz -> Rx"
-execute_text (Known And) n taken = "Ry AND Rz -> Rx"
-execute_text (Known Or) n taken = "Ry OR Rz -> Rx"
-execute_text (Known Xor) n taken = "Ry XOR Rz -> Rx"
-execute_text (Known Jump) n taken = cond taken "if Rx = R0: yz -> PC" "if Rx = R0: yz -> PC (not taken)"
-execute_text (Known Halt) n taken = ""
-execute_text Unknown n taken = ""
+unfoldable pub execute_text : Option Opcode → ℕ → Bool → String
+execute_text (Some LoadImmediate) n taken = "yz -> Rx"
+execute_text (Some LoadRegister) n taken = "Rz -> Ry"
+execute_text (Some LoadMemory) n taken = load_text n
+execute_text (Some StoreMemory) n taken = store_text n
+execute_text (Some Add) n taken = "Ry + Rz -> Rx"
+execute_text (Some Negate) n taken = "~Ry + 1 -> Ry"
+execute_text (Some ShiftRight) n taken = "Rx >> yz -> Rx"
+execute_text (Some ShiftLeft) n taken = "Rx << yz -> Rx"
+execute_text (Some And) n taken = "Ry AND Rz -> Rx"
+execute_text (Some Or) n taken = "Ry OR Rz -> Rx"
+execute_text (Some Xor) n taken = "Ry XOR Rz -> Rx"
+execute_text (Some Jump) n taken = cond taken "if Rx = R0: yz -> PC" "if Rx = R0: yz -> PC (not taken)"
+execute_text (Some Halt) n taken = ""
+execute_text None n taken = ""
 
 -- the text of a tick: its number, whether a jump is taken, the word
 unfoldable pub tick_template : ℕ → Bool → ℕ → String

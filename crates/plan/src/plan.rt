@@ -3,7 +3,7 @@ ghost use Rattle.std.specs.Prelude.{◌≡◌, map};
 ghost use Rattle.isa.specs.Text.{ascii, text};
 ghost use Rattle.isa.specs.Format.{fill_byte};
 ghost use Rattle.plan.specs.Plan.{phase_label, phase_number, phase_of, execute_ticks_of, fetch_text, load_text, store_text, execute_text};
-ghost use Rattle.plan.specs.Plan.{tick_text, plan_text, plan_of};
+ghost use Rattle.plan.specs.Plan.{tick_text, plan_of};
 
 use crate::FETCH_TICKS;
 use crate::texts::{
@@ -12,19 +12,19 @@ use crate::texts::{
     or_text, pc_to_mar_text, register_text, register_to_mdr_text, shift_left_text,
     shift_right_text, untaken_text, xor_text,
 };
-use isa::{Decoded, Instruction, Opcode, Text, digits_of};
+use isa::{Instruction, Opcode, Text, digits_of};
 
 // Which part of the machine cycle a transfer belongs to.
-#[derive(Clone, Copy)]
+#[derive(Clone, Copy, Debug, PartialEq, Eq)]
 pub enum Phase {
     // Fetching the next instruction from memory.
-    Fetch,
+    Fetch = 0,
     // Working out what the instruction in the instruction register means.
-    Decode,
+    Decode = 1,
     // Activating the circuits that carry the instruction out.
-    Execute,
+    Execute = 2,
     // The machine stopped.
-    Halt,
+    Halt = 3,
 }
 
 impl Phase {
@@ -44,12 +44,7 @@ impl Phase {
     pub fn number(self) -> u8
         ensures { result ≡ phase_number self }
     {
-        match self {
-            Phase::Fetch => 0,
-            Phase::Decode => 1,
-            Phase::Execute => 2,
-            Phase::Halt => 3,
-        }
+        self as u8
     }
 }
 
@@ -65,26 +60,13 @@ pub fn phase_of(tick: u8) -> Phase
 }
 
 // How many execute transfers an opcode needs. HALT has none: fetching it was the whole thing.
-pub fn execute_tick_count(decoded: Decoded) -> u8
+pub fn execute_tick_count(decoded: Option<Opcode>) -> u8
     ensures { result ≡ execute_ticks_of decoded }
 {
-    let Decoded::Known(opcode) = decoded else {
-        return 0;
-    };
-    match opcode {
-        Opcode::LoadImmediate => 1,
-        Opcode::LoadRegister => 1,
-        Opcode::LoadMemory => 3,
-        Opcode::StoreMemory => 3,
-        Opcode::Add => 1,
-        Opcode::Negate => 1,
-        Opcode::ShiftRight => 1,
-        Opcode::ShiftLeft => 1,
-        Opcode::And => 1,
-        Opcode::Or => 1,
-        Opcode::Xor => 1,
-        Opcode::Jump => 1,
-        Opcode::Halt => 0,
+    match decoded {
+        Some(Opcode::LoadMemory | Opcode::StoreMemory) => 3,
+        Some(Opcode::Halt) | None => 0,
+        Some(_) => 1,
     }
 }
 
@@ -120,7 +102,7 @@ fn store_text(n: u8, digits: [u8; 4]) -> Text
 }
 
 fn branch_text(taken: bool, digits: [u8; 4]) -> Text
-    ensures { result ≡ text (map (fill_byte digits) (ascii (execute_text (Decoded.Known Opcode.Jump) 0 taken))) }
+    ensures { result ≡ text (map (fill_byte digits) (ascii (execute_text (Some Opcode.Jump) 0 taken))) }
 {
     if taken {
         jump_text(digits)
@@ -129,10 +111,11 @@ fn branch_text(taken: bool, digits: [u8; 4]) -> Text
     }
 }
 
-fn execute_text(decoded: Decoded, n: u8, taken: bool, digits: [u8; 4]) -> Text
+// The opcode is taken out first: as one match on the option its proof did not close.
+fn execute_text(decoded: Option<Opcode>, n: u8, taken: bool, digits: [u8; 4]) -> Text
     ensures { result ≡ text (map (fill_byte digits) (ascii (execute_text decoded n taken))) }
 {
-    let Decoded::Known(opcode) = decoded else {
+    let Some(opcode) = decoded else {
         return Text::from_bytes(b"");
     };
     match opcode {
@@ -163,21 +146,11 @@ pub fn tick_text(tick: u8, taken: bool, word: u16) -> Text
     execute_text(decoded, tick - FETCH_TICKS, taken, digits_of(word))
 }
 
-// At most seven texts, and empty ones past them: the Rust's Vec.
+// At most seven texts, and empty ones past them: the Rust's Vec, where no crate has a heap.
 #[derive(Drop)]
 pub struct TransferPlan {
     pub texts: [Text; 7],
     pub count: u8,
-}
-
-fn plan_text(tick: u8, count: u8, word: u16) -> Text
-    ensures { result ≡ text (plan_text tick count word) }
-{
-    if tick < count {
-        tick_text(tick, true, word)
-    } else {
-        Text::from_bytes(b"")
-    }
 }
 
 // The register transfers an instruction is made of, in order: the four fetch transfers followed by
@@ -186,14 +159,9 @@ pub fn transfer_plan(word: u16) -> TransferPlan
     ensures { result ≡ plan_of word }
 {
     let count = FETCH_TICKS + execute_tick_count(Instruction::from_word(word).opcode());
-    let texts = [
-        plan_text(0, count, word),
-        plan_text(1, count, word),
-        plan_text(2, count, word),
-        plan_text(3, count, word),
-        plan_text(4, count, word),
-        plan_text(5, count, word),
-        plan_text(6, count, word),
-    ];
+    let mut texts = [Text::from_bytes(b""); 7];
+    for tick in 0..count {
+        texts[tick as usize] = tick_text(tick, true, word);
+    }
     TransferPlan { texts, count }
 }

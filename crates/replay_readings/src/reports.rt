@@ -1,15 +1,13 @@
 // A report: the report program's input, and what the tests' own model answers.
 use answer::{first, put_refusal};
-use check::same;
 use replay::word_at;
-use report::{REPORT_LENGTH, Reported, report_bytes};
+use report::{REPORT_LENGTH, report_bytes};
 
 // Puts what the report program would write at the start of `out`, and tells how many bytes that are.
 fn put_answer(input: &[u8], out: &mut [u8]) -> usize {
-    let reported = report_bytes(input, out);
-    match reported {
-        Reported::Written(size) => size,
-        Reported::Refused(number) => put_refusal(out, number),
+    match report_bytes(input, out) {
+        Ok(size) => size,
+        Err(refusal) => put_refusal(out, refusal.number()),
     }
 }
 
@@ -22,5 +20,5 @@ pub(crate) fn passes(record: &[u8]) -> bool {
     }
     let mut due = [0u8; REPORT_LENGTH];
     let size = put_answer(&record[3..from], &mut due);
-    same(&record[from..], first(&due, size))
+    &record[from..] == first(&due, size)
 }

@@ -1,9 +1,8 @@
 // Records of kind 'M': one tick of a running machine.
 use crate::state::{
-    alu_of, fault_of, option_of, put_control, put_last, transfer_number, transfer_of, write_number,
+    alu_of, option_of, put_control, put_last, transfer_bytes, transfer_of, write_bytes,
 };
-use check::same;
-use control::{Control, Counters, Operands, State, Tick, count_tick, is_lawful};
+use control::{Control, Counters, Operands, State, Tick, count_tick, fault_of, is_lawful};
 use encoding::{put_bytes, put_number};
 use plan::{phase_of, tick_text};
 use replay::{byte_at, put_text, word_at};
@@ -79,16 +78,10 @@ fn put_question(out: &mut [u8], s: State, o: Operands) {
     put_last(out, 20, s);
 }
 
-// A truth as the byte of a record.
-fn flag(b: bool) -> u8 {
-    if b { 1 } else { 0 }
-}
-
 // The state that the tick leaves.
 fn put_state(out: &mut [u8], s: State) {
-    let c = s.control;
-    put_control(out, 36, c);
-    put_number(out, 45, 1, flag(c.halted) as u64);
+    put_control(out, 36, s.control);
+    put_number(out, 45, 1, s.control.halted as u64);
     put_last(out, 46, s);
 }
 
@@ -100,66 +93,46 @@ fn put_text_and_phase(out: &mut [u8], before: Control, o: Operands) {
 }
 
 // What the counters grow by, a byte each.
-fn put_growth(out: &mut [u8], at: usize, t: Tick) {
+fn put_growth(out: &mut [u8], t: Tick) {
     let none = Counters {
         instructions: 0,
         micro_operations: 0,
         bus_reads: 0,
         bus_writes: 0,
     };
-    let bus = t.bus;
-    let k = count_tick(none, bus, t.completed);
-    let mut bytes = [0u8; 4];
-    put_number(&mut bytes, 0, 1, k.instructions);
-    put_number(&mut bytes, 1, 1, k.micro_operations);
-    put_number(&mut bytes, 2, 1, k.bus_reads);
-    put_number(&mut bytes, 3, 1, k.bus_writes);
-    put_bytes(out, at, &bytes);
+    let k = count_tick(none, t.bus, t.completed);
+    put_number(out, 108, 1, k.instructions);
+    put_number(out, 109, 1, k.micro_operations);
+    put_number(out, 110, 1, k.bus_reads);
+    put_number(out, 111, 1, k.bus_writes);
 }
 
 // The rest of what the original reports of a tick, and the counters' growth. A machine that halts
 // with no instruction completed has met an unknown one. The last 1 says that memory and registers
 // are as the bus and the register write say: the original's side is tested where the list is made.
 fn put_effects(out: &mut [u8], t: Tick) {
-    let s = t.state;
-    let c = s.control;
-    let bus = t.bus;
-    let write = t.write;
-    let address = [c.instruction_address];
-    let ends = [
-        flag(c.tick == 0),
-        flag(c.halted),
-        flag(c.halted && !t.completed),
-    ];
-    put_bytes(out, 96, &ends);
-    put_number(out, 99, 4, transfer_number(bus));
-    put_number(out, 103, 4, write_number(write));
-    put_bytes(out, 107, &address);
-    put_growth(out, 108, t);
+    let c = t.state.control;
+    put_number(out, 96, 1, (c.tick == 0) as u64);
+    put_number(out, 97, 1, c.halted as u64);
+    put_number(out, 98, 1, (c.halted && !t.completed) as u64);
+    put_bytes(out, 99, &transfer_bytes(t.bus));
+    put_bytes(out, 103, &write_bytes(t.write));
+    put_number(out, 107, 1, c.instruction_address as u64);
+    put_growth(out, t);
     put_number(out, 112, 1, 1);
 }
 
-// Whether a machine can have these control units, before the tick and after it. The original came
-// to both, so none of them may be refused.
-fn lawful_around(before: Control, after: State) -> bool {
-    if is_lawful(before) {
-        return is_lawful(after.control);
-    }
-    false
-}
-
-// Whether the record is the one that is due for its machine.
+// Whether the record is the one that is due for its machine. The original came to the control unit before the
+// tick and to the one after it, so neither may be refused.
 pub(crate) fn passes(record: &[u8]) -> bool {
     let s = state_of(record);
     let o = operands_of(record);
     let t = tick_of(s, o);
-    if !lawful_around(s.control, t.state) {
-        return false;
-    }
+    let lawful = is_lawful(s.control) && is_lawful(t.state.control);
     let mut due = [0u8; 113];
     put_question(&mut due, s, o);
     put_state(&mut due, t.state);
     put_text_and_phase(&mut due, s.control, o);
     put_effects(&mut due, t);
-    same(record, &due)
+    lawful && record == &due[..]
 }

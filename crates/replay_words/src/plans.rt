@@ -1,7 +1,6 @@
 // Records of kinds 'T', 'F' and 'U': what is fixed about an instruction's ticks, and the names of
 // the phases and of the ALU's operations.
 use crate::state::operation_of;
-use check::same;
 use encoding::{put_bytes, put_number};
 use isa::{Instruction, Text};
 use plan::{Phase, execute_tick_count, transfer_plan};
@@ -9,37 +8,31 @@ use replay::{byte_at, put_text, word_at};
 
 // The seven texts of a plan.
 fn put_texts(out: &mut [u8], texts: [Text; 7]) {
-    put_text(out, 5, texts[0]);
-    put_text(out, 38, texts[1]);
-    put_text(out, 71, texts[2]);
-    put_text(out, 104, texts[3]);
-    put_text(out, 137, texts[4]);
-    put_text(out, 170, texts[5]);
-    put_text(out, 203, texts[6]);
+    for (i, text) in texts.iter().enumerate() {
+        put_text(out, 5 + 33 * i, *text);
+    }
 }
 
 // 'T': how many execute ticks a word has, and its plan.
 pub(crate) fn word_passes(record: &[u8]) -> bool {
     let word = word_at(record, 1);
     let plan = transfer_plan(word);
-    let texts = plan.texts;
     let ticks = execute_tick_count(Instruction::from_word(word).opcode());
     let mut due = [0u8; 236];
     put_bytes(&mut due, 0, b"T");
     put_number(&mut due, 1, 2, word as u64);
     put_number(&mut due, 3, 1, ticks as u64);
     put_number(&mut due, 4, 1, plan.count as u64);
-    put_texts(&mut due, texts);
-    same(record, &due)
+    put_texts(&mut due, plan.texts);
+    record == &due[..]
 }
 
 // A kind, a number and the text due for it.
 fn name_passes(record: &[u8], kind: u8, number: u8, name: Text) -> bool {
-    let question = [kind, number];
     let mut due = [0u8; 35];
-    put_bytes(&mut due, 0, &question);
+    put_bytes(&mut due, 0, &[kind, number]);
     put_text(&mut due, 2, name);
-    same(record, &due)
+    record == &due[..]
 }
 
 // The phase of a number. One over 3 is taken for the last: the question that is then due has

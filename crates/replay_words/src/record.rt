@@ -1,27 +1,21 @@
-// The fields of these records that have a form of their own.
+// The fields of these records that have a form of their own. They stand at places, as the list's layout has them: a
+// reader with a place of its own would name each place once more and say no more.
 use encoding::put_bytes;
-use isa::{ByteOption, Decoded, InstructionGroup};
+use isa::{InstructionGroup, Opcode};
 
 // A byte that may be missing: 1 and the byte, or two zeros.
-pub(crate) fn option_bytes(option: ByteOption) -> [u8; 2] {
-    match option {
-        ByteOption::Some(value) => [1, value],
-        ByteOption::None => [0, 0],
-    }
+pub(crate) fn option_bytes(option: Option<u8>) -> [u8; 2] {
+    option.map_or([0, 0], |value| [1, value])
 }
 
 // The same, in a record.
-pub(crate) fn put_option(out: &mut [u8], at: usize, option: ByteOption) {
-    let bytes = option_bytes(option);
-    put_bytes(out, at, &bytes);
+pub(crate) fn put_option(out: &mut [u8], at: usize, option: Option<u8>) {
+    put_bytes(out, at, &option_bytes(option));
 }
 
 // An opcode's number, 0 for none.
-pub(crate) fn opcode_number(decoded: Decoded) -> u8 {
-    match decoded {
-        Decoded::Known(opcode) => opcode.nibble(),
-        Decoded::Unknown => 0,
-    }
+pub(crate) fn opcode_number(decoded: Option<Opcode>) -> u8 {
+    decoded.map_or(0, |opcode| opcode.nibble())
 }
 
 // A group's number, its place among all groups.

@@ -1,6 +1,5 @@
 // Records of kind 'W': all that the port says of one word.
 use crate::record::{opcode_number, put_option};
-use check::same;
 use disasm::{
     active_register, disassemble, memory_operand, read_register, source_registers, written_register,
 };
@@ -24,10 +23,9 @@ fn put_digits(out: &mut [u8], word: u16) {
         t.y,
         t.z,
     ];
-    let nibbles = i.nibbles();
     put_number(out, 3, 2, i.word() as u64);
     put_bytes(out, 5, &single);
-    put_bytes(out, 14, &nibbles);
+    put_bytes(out, 14, &i.nibbles());
 }
 
 // The word as a text, in each of its forms.
@@ -46,12 +44,11 @@ fn raised(n: i16) -> u16 {
 // The registers and the address that the word's instruction names.
 fn put_operands(out: &mut [u8], word: u16) {
     let sources = source_registers(word);
-    let registers = sources.registers;
     put_option(out, 152, written_register(word));
     put_option(out, 154, read_register(word));
     put_option(out, 156, active_register(word));
     put_number(out, 158, 1, sources.count as u64);
-    put_bytes(out, 159, &registers);
+    put_bytes(out, 159, &sources.registers);
     put_option(out, 161, memory_operand(word));
 }
 
@@ -69,5 +66,5 @@ fn put_record(out: &mut [u8], word: u16) {
 pub(crate) fn passes(record: &[u8]) -> bool {
     let mut due = [0u8; 163];
     put_record(&mut due, word_at(record, 1));
-    same(record, &due)
+    record == &due[..]
 }

@@ -2,11 +2,12 @@
 ghost use Rattle.std.specs.Prelude.{◌≡◌};
 ghost use Rattle.guard.specs.Input.{input_from};
 ghost use Rattle.encoding.specs.Answer.{outcome};
-ghost use Rattle.secret.specs.Outcome.{told, report_outcome};
+ghost use Rattle.encoding.specs.Refusal.{told};
+ghost use Rattle.secret.specs.Outcome.{report_outcome};
 
-use crate::whole::write_report;
-use crate::widths::REPORT_LENGTH;
-use secret::Reported;
+use crate::whole::{put_input, put_run};
+use crate::widths::{BREAK_LENGTH, BREAK_RECORDS_AT, REPORT_LENGTH};
+use encoding::Refusal;
 use vm::{Begun, guarded_run};
 
 // Make a guarded run and write its report for a reader with this clearance from byte 0 on; bytes past the report are
@@ -18,37 +19,16 @@ pub fn report(
     breakpoints: &[u8],
     clearance: u8,
     out: &mut [u8],
-) -> Reported
+) -> Result<usize, Refusal>
     ensures { outcome (told result) out.new
         ≡ report_outcome (input_from image.now marks.now budget.0 breakpoints.now clearance)
         out.old }
 {
-    let run = guarded_run(image, marks, budget, breakpoints, clearance);
-    let refused = run.refused;
-    if refused != 0 {
-        return Reported::Refused(refused);
-    }
+    let run = guarded_run(image, marks, budget, breakpoints, clearance)?;
     if out.len() < REPORT_LENGTH {
-        return Reported::Refused(5);
+        return Err(Refusal::ShortBuffer);
     }
-    let machine = run.machine;
-    let left = run.marks;
-    let stop = run.stop;
-    let register_marks = left.registers;
-    let memory_marks = left.memory;
-    let n = write_report(
-        out,
-        image,
-        marks,
-        budget,
-        breakpoints,
-        clearance,
-        stop,
-        machine,
-        &register_marks,
-        &memory_marks,
-        left.mdr,
-        run.hidden_total,
-    );
-    Reported::Written(n)
+    put_input(out, image, marks, budget, breakpoints, clearance);
+    let at = BREAK_RECORDS_AT + BREAK_LENGTH * breakpoints.len();
+    Ok(put_run(out, at, clearance, &run))
 }

@@ -10,5 +10,4 @@ mod widths;
 
 pub use call::report;
 pub use program::report_bytes;
-pub use secret::Reported;
 pub use widths::{INPUT_LENGTH, REPORT_LENGTH};

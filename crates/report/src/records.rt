@@ -1,4 +1,5 @@
-// One record of each kind, written where it is known to fit.
+// One record of each kind, written where it is known to fit. `out`, `at` and `clearance` are no struct: `at` differs at
+// each call, so that each would make a new one.
 ghost use Rattle.std.specs.Prelude.{◌≡◌, [], ◌∷◌, ◌+◌, ◌≤◌, length};
 ghost use Rattle.encoding.specs.Bytes.{over, big_endian};
 ghost use Rattle.isa.specs.Sizes.{text_width};
@@ -13,7 +14,7 @@ use crate::widths::{
     BREAK_COUNT_AT, BUDGET_AT, CLEARANCE_AT, CONTROL_AT, CONTROL_LENGTH, COUNT_WIDTH,
     COUNTS_LENGTH, KIND_WIDTH, NUMBER_WIDTH, PLACE_AND_PHASE, PLACE_AND_VALUE, WORD_LENGTH,
 };
-use control::{ADDRESS_WIDTH, Address, Counters, Fault, State};
+use control::{ADDRESS_WIDTH, Address, Counters, Fault, State, fault_bytes};
 use disasm::disassemble_into;
 use encoding::{put_bytes, put_number};
 use isa::TEXT_WIDTH;
@@ -150,11 +151,11 @@ fn put_counts(out: &mut [u8], at: usize, counters: Counters)
     put_number(out, third + NUMBER_WIDTH, NUMBER_WIDTH, counters.bus_writes);
 }
 
-fn put_fault(out: &mut [u8], at: usize, fault: Fault)
+fn put_fault(out: &mut [u8], at: usize, fault: Option<Fault>)
     requires { at + fault_width ≤ length out.old }
     ensures { out.new ≡ over out.old at (fault_bytes fault) }
 {
-    let bytes = fault.bytes();
+    let bytes = fault_bytes(fault);
     put_bytes(out, at, &bytes);
 }
 

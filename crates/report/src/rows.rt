@@ -22,10 +22,7 @@ use trace::{ADDRESSES_AT, PHASES_AT, TRACE_LIMIT};
 fn word_at(image: &[u16], address: usize) -> u16
     ensures { result ≡ get_or image.now address 0 }
 {
-    if address < image.len() {
-        return image[address];
-    }
-    0
+    image.get(address).copied().unwrap_or(0)
 }
 
 // Kind 02, behind the head: a record for each starting word.
@@ -35,18 +32,16 @@ pub(crate) fn put_starts(out: &mut [u8], image: &[u16], marks: &[u8], clearance:
         ≡ over out.old head_length
         (start_records (hidden_from clearance) (image_words image.now) marks.now) }
 {
-    let mut i = 0;
-    while i < MEMORY_WORDS {
+    for (i, &mark) in marks.iter().enumerate() {
         let word = word_at(image, i);
         put_start(
             out,
             HEAD_LENGTH + START_LENGTH * i,
             clearance,
             i,
-            marks[i],
+            mark,
             word,
         );
-        i += 1;
     }
 }
 
@@ -55,10 +50,8 @@ pub(crate) fn put_breaks(out: &mut [u8], at: usize, list: &[u8])
     requires { at + break_length * length list.now ≤ length out.old }
     ensures { out.new ≡ over out.old at (each_record break_record list.now) }
 {
-    let mut i = 0;
-    while i < list.len() {
-        put_byte(out, at + BREAK_LENGTH * i, 3, list[i]);
-        i += 1;
+    for (i, &address) in list.iter().enumerate() {
+        put_byte(out, at + BREAK_LENGTH * i, 3, address);
     }
 }
 
@@ -67,16 +60,14 @@ pub(crate) fn put_touches(out: &mut [u8], at: usize, list: &[Address])
     requires { at + touched_length * length list.now ≤ length out.old }
     ensures { out.new ≡ over out.old at (each_record touched_record list.now) }
 {
-    let mut i = 0;
-    while i < list.len() {
+    for (i, &address) in list.iter().enumerate() {
         put_numbered(
             out,
             at + TOUCHED_LENGTH * i,
             7,
             ADDRESS_WIDTH,
-            list[i] as u64,
+            address as u64,
         );
-        i += 1;
     }
 }
 
@@ -94,8 +85,7 @@ pub(crate) fn put_trace(
     ensures { out.new ≡ over out.old at (slot_records start n columns.now numbers.now) }
 {
     let from = start % TRACE_LIMIT;
-    let mut i = 0;
-    while i < n {
+    for i in 0..n {
         let slot = (from + i) % TRACE_LIMIT;
         let first = slot * TEXT_WIDTH;
         let last = first + TEXT_WIDTH;
@@ -107,7 +97,6 @@ pub(crate) fn put_trace(
             columns[PHASES_AT + slot],
             &columns[first..last],
         );
-        i += 1;
     }
 }
 
@@ -128,8 +117,7 @@ pub(crate) fn put_values(
         (value_records (hidden_from clearance) kind (big_endian width) (length values.now) values.now marks.now) }
 {
     let size = KIND_WIDTH + width + MARK_WIDTH + VALUE_WIDTH;
-    let mut i = 0;
-    while i < values.len() {
+    for (i, &value) in values.iter().enumerate() {
         put_value(
             out,
             at + size * i,
@@ -138,8 +126,7 @@ pub(crate) fn put_values(
             width,
             i,
             marks[i],
-            values[i],
+            value,
         );
-        i += 1;
     }
 }

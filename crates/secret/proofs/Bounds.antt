@@ -1,5 +1,7 @@
 -- What a guarded run leaves: at most 512 trace records, each with a text that fits its field, and at most 256 touched addresses.
 -- Assumes nothing.
+use Rattle.std.specs.Prelude.{None, Option, Some}
+use Rattle.isa.specs.declared.opcode.Opcode.{Opcode}
 use Prim.Native.Nat.{ℕ, zero, suc, ◌+◌, ◌≤◌, ◌<◌}
 use native.Mathlib.Omega.{arith}
 use mathlib.Core.Path.{◌≡◌, refl, ap}
@@ -11,10 +13,8 @@ use lib.ListN.{length, get_or, drop, length-append, length-drop}
 use lib.Seq.{get_or-drop}
 use Rattle.isa.specs.Sizes.{memory_words, text_width}
 use Rattle.isa.specs.declared.opcode.Opcode.TheVariants.{LoadImmediate, LoadRegister, LoadMemory, StoreMemory, Add, Negate, ShiftRight, ShiftLeft, And, Or, Xor, Jump, Halt}
-use Rattle.isa.specs.declared.opcode.Decoded.{Decoded}
-use Rattle.isa.specs.declared.opcode.Decoded.TheVariants.{Known, Unknown}
-use Rattle.isa.specs.declared.text.Text.{Text}
-use Rattle.isa.specs.Text.{text, text_of, padded}
+use Rattle.isa.specs.Text.{Text}
+use Rattle.isa.specs.Text.{fixed_text, text, text_of, padded}
 use Rattle.isa.specs.Word.{decode_word, byte_yz}
 use Rattle.isa.proofs.Texts.{text_of-text}
 use Rattle.plan.specs.Plan.{execute_ticks_of, tick_text}
@@ -23,7 +23,7 @@ use Rattle.control.specs.declared.control.Control.{Control}
 use Rattle.control.specs.declared.control.Operands.{Operands}
 use Rattle.control.specs.declared.control.Tick.{Tick}
 use Rattle.control.specs.declared.control.BusTransfer.{BusTransfer}
-use Rattle.control.specs.declared.control.BusTransfer.TheVariants.{Idle, Read, Write}
+use Rattle.control.specs.declared.control.BusTransfer.TheVariants.{Read, Write}
 use Rattle.control.specs.Control.{with_control, to_tick}
 use Rattle.tick.specs.Tick.{decode_tick, decode_to, next_pc, halting_tick, is_halt, plain, execute_tick, load_tick, store_tick, ended_tick, later_tick, onward, tick_of}
 use Rattle.trace.specs.declared.records.TraceRecord.{TraceRecord}
@@ -59,7 +59,7 @@ live-fits x f = rw (f.made, text_of-text f.bytes) f.few
 
 -- the whole of its array is its live bytes, zero padded
 pub whole_array : (x : Text) → Fits x → padded text_width (text_of x) ≡ x.bytes
-unfolding text
+unfolding fixed_text
 whole_array x f = rw f.made (ap (padded text_width) (text_of-text f.bytes))
 
 none-fits : Fits (text [])
@@ -90,10 +90,10 @@ abbrev AllBytes : List ℕ → Type 0
 AllBytes l = (i : ℕ) → get_or l i 0 < memory_words
 
 -- the address of a bus write is one
-abbrev BusFits : BusTransfer → Type 0
-BusFits Idle = Unit {0}
-BusFits (Read a v) = Unit {0}
-BusFits (Write a v) = a < memory_words
+abbrev BusFits : Option BusTransfer → Type 0
+BusFits None = Unit {0}
+BusFits (Some (Read a v)) = Unit {0}
+BusFits (Some (Write a v)) = a < memory_words
 
 noted-differ : (a : ℕ) (l : List ℕ) → distinct l ≡ true → distinct (noted a l) ≡ true
 unfolding noted
@@ -115,10 +115,10 @@ noted-below a l h k = at (member a l)
     at true = k
     at false = append_below memory_words l (a ∷ []) k (single_below a h)
 
-touched-fits : (b : BusTransfer) (l : List ℕ) → BusFits b → distinct l ≡ true → AllBytes l → (distinct (touched_by b l) ≡ true) × AllBytes (touched_by b l)
-touched-fits Idle l h d k = (d, k)
-touched-fits (Read a v) l h d k = (d, k)
-touched-fits (Write a v) l h d k = (noted-differ a l d, noted-below a l h k)
+touched-fits : (b : Option BusTransfer) (l : List ℕ) → BusFits b → distinct l ≡ true → AllBytes l → (distinct (touched_by b l) ≡ true) × AllBytes (touched_by b l)
+touched-fits None l h d k = (d, k)
+touched-fits (Some (Read a v)) l h d k = (d, k)
+touched-fits (Some (Write a v)) l h d k = (noted-differ a l d, noted-below a l h k)
 
 -- ---- PC and MAR are addresses
 
@@ -130,13 +130,13 @@ record TickFits (t : Tick) : Type 0 where
   control : Addresses t.state.control
   bus : BusFits t.bus
 
-decode_fits : (d : Decoded) (s : State) (c : Control) → Addresses c → TickFits (decode_to d s c)
-decode_fits (Known o) s c a = at (is_halt o)
+decode_fits : (d : Option Opcode) (s : State) (c : Control) → Addresses c → TickFits (decode_to d s c)
+decode_fits (Some o) s c a = at (is_halt o)
   where
     at : (b : Bool) → TickFits (cond b (halting_tick s c) (plain (with_control (to_tick 4 c) s)))
     at true = record { control = record { pc = a.pc; mar = a.mar }; bus = tt }
     at false = record { control = record { pc = a.pc; mar = a.mar }; bus = tt }
-decode_fits Unknown s c a = record { control = record { pc = a.pc; mar = a.mar }; bus = tt }
+decode_fits None s c a = record { control = record { pc = a.pc; mar = a.mar }; bus = tt }
 
 same_fits : (s : State) → Addresses s.control → TickFits (plain s)
 same_fits s a = record { control = a; bus = tt }
@@ -155,22 +155,22 @@ jump-pc : (b : Bool) (w pc : ℕ) → pc < 256 → cond b (byte_yz w) pc < 256
 jump-pc true w pc h = omega arith
 jump-pc false w pc h = h
 
-execute_fits : (d : Decoded) (n : ℕ) (s : State) (o : Operands) → Addresses s.control → TickFits (execute_tick d n s o)
+execute_fits : (d : Option Opcode) (n : ℕ) (s : State) (o : Operands) → Addresses s.control → TickFits (execute_tick d n s o)
 unfolding execute_tick
-execute_fits (Known LoadImmediate) n s o a = record { control = a; bus = tt }
-execute_fits (Known LoadRegister) n s o a = record { control = a; bus = tt }
-execute_fits (Known LoadMemory) n s o a = load_fits n s o.cell a
-execute_fits (Known StoreMemory) n s o a = store-fits n s o.x a
-execute_fits (Known Add) n s o a = record { control = a; bus = tt }
-execute_fits (Known Negate) n s o a = record { control = a; bus = tt }
-execute_fits (Known ShiftRight) n s o a = record { control = a; bus = tt }
-execute_fits (Known ShiftLeft) n s o a = record { control = a; bus = tt }
-execute_fits (Known And) n s o a = record { control = a; bus = tt }
-execute_fits (Known Or) n s o a = record { control = a; bus = tt }
-execute_fits (Known Xor) n s o a = record { control = a; bus = tt }
-execute_fits (Known Jump) n s o a = record { control = record { pc = jump-pc (eqb o.x o.zero) s.control.ir s.control.pc a.pc; mar = a.mar }; bus = tt }
-execute_fits (Known Halt) n s o a = same_fits s a
-execute_fits Unknown n s o a = same_fits s a
+execute_fits (Some LoadImmediate) n s o a = record { control = a; bus = tt }
+execute_fits (Some LoadRegister) n s o a = record { control = a; bus = tt }
+execute_fits (Some LoadMemory) n s o a = load_fits n s o.cell a
+execute_fits (Some StoreMemory) n s o a = store-fits n s o.x a
+execute_fits (Some Add) n s o a = record { control = a; bus = tt }
+execute_fits (Some Negate) n s o a = record { control = a; bus = tt }
+execute_fits (Some ShiftRight) n s o a = record { control = a; bus = tt }
+execute_fits (Some ShiftLeft) n s o a = record { control = a; bus = tt }
+execute_fits (Some And) n s o a = record { control = a; bus = tt }
+execute_fits (Some Or) n s o a = record { control = a; bus = tt }
+execute_fits (Some Xor) n s o a = record { control = a; bus = tt }
+execute_fits (Some Jump) n s o a = record { control = record { pc = jump-pc (eqb o.x o.zero) s.control.ir s.control.pc a.pc; mar = a.mar }; bus = tt }
+execute_fits (Some Halt) n s o a = same_fits s a
+execute_fits None n s o a = same_fits s a
 
 onward-fits : (n : ℕ) (t : Tick) → TickFits t → TickFits (onward n t)
 onward-fits n t f = at (leb t.state.control.execute_ticks (n + 1))
@@ -199,7 +199,7 @@ pub record Bounded (m : Machine) : Type 0 where
   pub touched : AllBytes m.touched
 
 next_fits : (m : Machine) → Fits (next_text m)
-unfolding next_text text
+unfolding next_text fixed_text
 next_fits m =
     let s = m.state in
     let o = operands_of s m.memory m.registers in

@@ -1,9 +1,11 @@
 -- The call for a report, by its tests: what it answers where it is refused, and where the run that it made is served; and the report that it leaves.
 -- Assumes nothing.
 use Prim.Native.Nat.{ℕ, zero, suc, ◌≤◌, ◌<◌}
+use native.Mathlib.Omega.{arith}
 use mathlib.Core.Path.{◌≡◌, refl, sym, ap, subst, ◌∙◌}
 use mathlib.Core.Bool.{true}
 use mathlib.Core.List.{List, ◌++◌}
+use Rattle.std.specs.Prelude.{Err}
 use borrow.Author.Tests.{leb-true, eq-eqb, ne_eqb, lt-ltb, le-ltb}
 use lib.Dec.{leb}
 use lib.ListN.{length, get_or}
@@ -13,7 +15,7 @@ use Rattle.isa.specs.Text.{padded, text_of}
 use Rattle.control.specs.Lawful.{lawful}
 use Rattle.isa.proofs.Truths.{both}
 use Rattle.vm.specs.declared.machine.Machine.{Machine as Code}
-use Rattle.trace.specs.Trace.{live_lengths, short_texts, trace_limit}
+use Rattle.trace.specs.Trace.{columns_length, live_lengths, short_texts, trace_limit}
 use Rattle.vm.specs.Refusal.{parts_ok}
 use Rattle.vm.specs.Calls.{view_of, is_machine, image_words}
 use Rattle.vm.specs.Machine.{Machine}
@@ -21,13 +23,15 @@ use Rattle.marks.specs.Owners.{hidden_from}
 use Rattle.vm.specs.Guard.{Guarded, GuardedEnd, guarded_of}
 use Rattle.guard.specs.Stops.{stop_number}
 use Rattle.guard.specs.Input.{Input, input_refusal}
-use Rattle.secret.specs.declared.Reported.TheVariants.{Refused}
 use Rattle.secret.specs.Report.{no_record, head_of, start_records, break_record, each_record, end_records, end_bytes, report_on, report_bytes}
 use Rattle.secret.specs.Forms.{Reportable}
 use Rattle.secret.specs.Widths.{report_limit}
 use Rattle.secret.specs.Public.{report_refusal}
 use Rattle.encoding.specs.Answer.{Outcome, Told, outcome, unless_refused}
-use Rattle.secret.specs.Outcome.{told, delivered, report_outcome, report_in}
+use Rattle.encoding.specs.declared.refusal.Refusal.{Refusal}
+use Rattle.encoding.specs.declared.refusal.Refusal.TheVariants.{ShortBuffer}
+use Rattle.encoding.specs.Refusal.{refusal_number, told}
+use Rattle.secret.specs.Outcome.{delivered, report_outcome, report_in}
 use Rattle.secret.proofs.Bounds.{guarded_bounded, whole_array}
 
 -- ---- the machine that a guarded run leaves is one of which a report can be written
@@ -42,8 +46,10 @@ module _ (m : Code) (ok : is_machine m ≡ true) where
       let d = (both (short_texts (live_lengths m.trace_start m.trace_len m.lengths)) _ c.1).1 in
       (leb-true m.trace_len trace_limit c.0, leb-true m.touched_len memory_words (both (leb m.touched_len memory_words) _ d).0)
 
-  pub reportable : (i : Input) → view_of m ≡ (guarded_of i).guarded.machine → Reportable m
-  reportable i e = record {
+  pub reportable : (i : Input) → length m.columns ≡ columns_length → length m.touched ≡ memory_words → view_of m ≡ (guarded_of i).guarded.machine → Reportable m
+  reportable i columns places e = record {
+    columns = columns;
+    places = places;
     trace = counts-fit.0;
     touched = counts-fit.1;
     texts = λ j. subst (λ (x : Machine). padded text_width (text_of (get_or x.trace j no_record).text) ≡ (get_or x.trace j no_record).text.bytes) (sym e) (whole_array _ ((guarded_bounded i).texts j));
@@ -51,18 +57,22 @@ module _ (m : Code) (ok : is_machine m ≡ true) where
 
 -- ---- the answer
 
-pub refused-number : (n : ℕ) (out : List ℕ) (o : Outcome Told) → (n ≡ 0 → ⊥) → outcome (told (Refused n)) out ≡ unless_refused n out o
+-- no refusal has number 0
+pub refusal-some : (r : Refusal) → refusal_number r ≡ 0 → ⊥
+refusal-some r z = grind arith
+
+pub refused-number : (n : ℕ) (out : List ℕ) (o : Outcome Told) → (n ≡ 0 → ⊥) → outcome (record { refused = n; length = 0 }) out ≡ unless_refused n out o
 refused-number zero out o h = absurd (h refl)
 refused-number (suc n) out o h = refl
 
 module _ (i : Input) (out : List ℕ) where
-  pub call-refused : {n : ℕ} → n ≡ input_refusal i → (n ≡ 0 → ⊥) → outcome (told (Refused n)) out ≡ report_outcome i out
+  pub call-refused : (r : Refusal) → refusal_number r ≡ input_refusal i → outcome (told (Err r)) out ≡ report_outcome i out
   unfolding report_outcome report_refusal
-  call-refused {n} e h =
-      let k : input_refusal i ≡ 0 → ⊥ = λ z. h (e ∙ z) in
-      rw (ne_eqb (input_refusal i) 0 k, ← e) (refused-number n out _ h)
+  call-refused r e =
+      let k : input_refusal i ≡ 0 → ⊥ = λ z. refusal-some r (e ∙ z) in
+      rw (ne_eqb (input_refusal i) 0 k, ← e) (refused-number (refusal_number r) out _ (refusal-some r))
 
-  pub call-short : input_refusal i ≡ 0 → length out < report_limit → outcome (told (Refused 5)) out ≡ report_outcome i out
+  pub call-short : input_refusal i ≡ 0 → length out < report_limit → outcome (told (Err ShortBuffer)) out ≡ report_outcome i out
   unfolding report_outcome report_refusal
   call-short e h = rw (eq-eqb (input_refusal i) 0 e, lt-ltb (length out) report_limit h)
 

@@ -7,13 +7,12 @@ use mathlib.Core.Bool.{Bool, true, false, cond}
 use mathlib.Core.List.{List}
 use borrow.Author.Tests.{ltb-true, ltb-false, le-leb, lt-ltb, ne_eqb}
 use lib.Dec.{ltb}
-use lib.ListN.{length, take, drop, length-take}
+use lib.ListN.{length, take, drop}
 use lib.Seq.{length-take-le, take_all, take-add, drop_at, get_or-take}
-use Rattle.encoding.specs.Bytes.{number, read_number, written}
-use Rattle.encoding.proofs.Written.{take-over, written-fits, length-written}
+use Rattle.encoding.specs.Bytes.{number, read_number}
 use Rattle.secret.specs.Widths.{report_limit}
 use Rattle.secret.specs.Program.{input_length, image_length, budget_at, count_at, length_due, budget_in, break_count, first_refusal, bytes_refusal, bytes_outcome}
-use Rattle.secret.proofs.Programs.{bytes-passed, bytes_end, bytes-refused}
+use Rattle.secret.proofs.Programs.{bytes-passed, bytes_end, bytes_by}
 
 -- ---- what lies in the first k bytes is read there
 
@@ -94,16 +93,5 @@ first_decide b out = go (ltb (length b) input_length) refl
         ap (λ (x : List ℕ). bytes_outcome x out) (take_all input_length b (omega arith))
     go false e =
         let h : input_length ≤ length b = ltb-false (length b) input_length e in
-        sym (bytes-refused (take input_length b) out (sym (refusal-front b (length out) h)) (never_whole b (length out) h))
-        ∙ bytes-refused b out refl (never_whole b (length out) h)
-
--- the copy o that the code makes of them, in an array d of zeros
-module _ (b d : List ℕ) {p o : List ℕ} (size : length d ≡ input_length) (part : p ≡ take input_length b) (put : o ≡ written d 0 p) where
-  short : length p ≤ length d
-  short = rw (size, part, length-take) (omega arith)
-
-  pub copy_fits : length p ≤ length o
-  copy_fits = rw (put, length-written) short
-
-  pub copied : take (length p) o ≡ take input_length b
-  copied = let h = short in rw (put, written-fits d 0 p (omega arith)) (take-over d p) ∙ part
+        sym (bytes_by (take input_length b) out (sym (refusal-front b (length out) h)) (never_whole b (length out) h))
+        ∙ bytes_by b out refl (never_whole b (length out) h)

@@ -18,7 +18,7 @@ use Rattle.guard.specs.declared.stops.GuardedStop.TheVariants.{Budget}
 use Rattle.guard.specs.Stops.{Verdict, go, stop, after, reached, is_jump, hidden_jump, guard_if, stop_number}
 use Rattle.guard.specs.Input.{Input, guard_refusal, input_refusal}
 use Rattle.vm.specs.Machine.{Machine}
-use Rattle.vm.specs.Guard.{Guarded, GuardedEnd, guarded_step, guarded_end, guard, guarded_run, guarded_start, guarded_of, guarded_answer_of, served_answer, refused_run, guarded_answer}
+use Rattle.vm.specs.Guard.{Guarded, GuardedEnd, guarded_step, guarded_end, guard, guarded_run, guarded_start, guarded_of, served_answer, refused_answer, guarded_answer}
 use Rattle.secret.specs.Marked.{marked_list, marked_marks, marked_end, marked_answer, marked_input}
 use Rattle.secret.proofs.Related.{Rows, nil, cons, Related, Closed, rows_get, rows-zero, instruction_related}
 
@@ -155,14 +155,14 @@ module _ (i : Input) where
       λ x. record { refused = 0; stop = stop_number (e x).stop; executed = (e x).executed; guarded = (e x).guarded; hidden_total = total x; rest = (served_answer i).rest }
 
   -- a refused answer has no owners
-  marked_refused : (n : ℕ) → guarded_answer_of (refused_run n) ≡ marked_answer hides (guarded_answer_of (refused_run n))
-  unfolding refused_run
+  marked_refused : (n : ℕ) → refused_answer n ≡ marked_answer hides (refused_answer n)
+  unfolding refused_answer
   marked_refused n =
       let c = i.clearance in
       let x = zeros c memory_words in
       let y = zeros c register_count in
       let z = none c in
-      let a = guarded_answer_of (refused_run n) in
+      let a = refused_answer n in
       λ j. record { refused = a.refused; stop = a.stop; executed = a.executed; guarded = record { machine = a.guarded.machine; marks = marks_of (x j) (y j) (z j) }; hidden_total = a.hidden_total; rest = a.rest }
 
   -- what `guarded_run` answers, for every input

@@ -5,6 +5,7 @@ use native.Mathlib.Omega.{arith}
 use mathlib.Core.Path.{◌≡◌, refl, sym, ap, ◌∙◌}
 use mathlib.Core.Bool.{Bool, true, false, cond}
 use mathlib.Core.List.{List}
+use Rattle.std.specs.Prelude.{Ok, Err}
 use borrow.Author.Tests.{ltb-false, eqb-true, eq-eqb}
 use lib.Dec.{eqb, ltb}
 use lib.ListN.{length, take, drop, get_or, length-drop}
@@ -15,16 +16,17 @@ use Rattle.encoding.proofs.Written.{take-over}
 use Rattle.encoding.proofs.Numbers.{length-numbers, numbers-below}
 use Rattle.history.proofs.Parts.{words_inside}
 use Rattle.guard.specs.Input.{input_from, guard_refusal, break_limit, budget_limit}
-use Rattle.secret.specs.declared.Reported.TheVariants.{Written, Refused}
 use Rattle.secret.specs.Report.{report_bytes}
 use Rattle.secret.specs.Widths.{report_limit}
 use Rattle.secret.specs.Public.{report_refusal}
 use Rattle.encoding.specs.Answer.{Outcome, Told, outcome, unless_refused}
-use Rattle.secret.specs.Outcome.{told, delivered, report_outcome, report_in}
+use Rattle.encoding.specs.declared.refusal.Refusal.{Refusal}
+use Rattle.encoding.specs.Refusal.{refusal_number, told}
+use Rattle.secret.specs.Outcome.{delivered, report_outcome, report_in}
 use Rattle.secret.specs.Program.{image_length, marks_at, budget_at, count_at, breaks_at, clearance_at, length_due, budget_in, break_count, input_of, first_refusal, bytes_refusal, bytes_outcome}
 use Rattle.secret.proofs.Accepts.{passed, met}
-use Rattle.secret.proofs.Calls.{answered, refused-number}
-use Rattle.secret.proofs.Lengths.{report_fits, report_some}
+use Rattle.secret.proofs.Calls.{answered, refusal-some, refused-number}
+use Rattle.secret.proofs.Lengths.{report_fits}
 
 -- ---- the tests
 
@@ -91,9 +93,12 @@ bytes_accepted b room e = sym (whole_refusal b room (bytes_end b room e)) ∙ e
 -- ---- the answer
 
 module _ (b out : List ℕ) where
-  pub bytes-refused : {n : ℕ} → n ≡ bytes_refusal b (length out) → (n ≡ 0 → ⊥) → outcome (told (Refused n)) out ≡ bytes_outcome b out
+  pub bytes_by : {n : ℕ} → n ≡ bytes_refusal b (length out) → (n ≡ 0 → ⊥) → outcome (record { refused = n; length = 0 }) out ≡ bytes_outcome b out
   unfolding bytes_outcome
-  bytes-refused {n} e h = refused-number n out _ h ∙ ap (λ (k : ℕ). unless_refused k out (delivered (report_bytes (input_of b)) out)) e
+  bytes_by {n} e h = refused-number n out _ h ∙ ap (λ (k : ℕ). unless_refused k out (delivered (report_bytes (input_of b)) out)) e
+
+  pub bytes-refused : (r : Refusal) → refusal_number r ≡ bytes_refusal b (length out) → outcome (told (Err r)) out ≡ bytes_outcome b out
+  bytes-refused r e = bytes_by e (refusal-some r)
 
   pub bytes_served : bytes_refusal b (length out) ≡ 0 → report_outcome (input_of b) out ≡ bytes_outcome b out
   unfolding bytes_outcome
@@ -126,20 +131,14 @@ module _ (b out : List ℕ) where
   bytes_report e = ap report_in (bytes_left e) ∙ take-over out (report_bytes (input_of b))
 
   pub bytes-kept : (bytes_refusal b (length out) ≡ 0 → ⊥) → (bytes_outcome b out).buffer ≡ out
-  bytes-kept h = ap (λ (o : Outcome Told). o.buffer) (sym (bytes-refused refl h))
+  bytes-kept h = ap (λ (o : Outcome Told). o.buffer) (sym (bytes_by refl h))
 
-  -- a length that is answered is of no refusal, and a number that is answered is no 0, since no report is empty
-  pub bytes-written : {n : ℕ} {o : List ℕ} → outcome (told (Written n)) o ≡ bytes_outcome b out → bytes_refusal b (length out) ≡ 0
+  -- a length that is answered is of no refusal
+  pub bytes-written : {n : ℕ} {o : List ℕ} → outcome (told (Ok n)) o ≡ bytes_outcome b out → bytes_refusal b (length out) ≡ 0
   bytes-written h = sym bytes-told ∙ sym (ap (λ (x : Outcome Told). x.answer.refused) h)
 
-  pub bytes-number : {n : ℕ} {o : List ℕ} → outcome (told (Refused n)) o ≡ bytes_outcome b out → (n ≡ bytes_refusal b (length out)) × (n ≡ 0 → ⊥)
-  bytes-number {n} h =
-      let e : n ≡ bytes_refusal b (length out) = ap (λ (x : Outcome Told). x.answer.refused) h ∙ bytes-told in (
-        e,
-        λ z.
-            let l : 0 ≡ length (report_bytes (input_of b)) = ap (λ (x : Outcome Told). x.answer.length) (h ∙ bytes_left (sym e ∙ z)) in
-            omega (arith, report_some (input_of b)),
-      )
+  pub bytes-number : (r : Refusal) {o : List ℕ} → outcome (told (Err r)) o ≡ bytes_outcome b out → refusal_number r ≡ bytes_refusal b (length out)
+  bytes-number r h = ap (λ (x : Outcome Told). x.answer.refused) h ∙ bytes-told
 
 -- ---- words of 16 bits
 

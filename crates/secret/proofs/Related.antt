@@ -1,12 +1,12 @@
 -- One law for the marks of three runs of one machine: a relation that holds of 0 and is kept by joining is kept by every instruction.
 -- Assumes nothing.
+use Rattle.std.specs.Prelude.{None, Option, Some}
+use Rattle.isa.specs.declared.opcode.Opcode.{Opcode}
 use Prim.Native.Nat.{ℕ, zero, suc}
 use mathlib.Core.List.{List, [], ◌∷◌}
 use mathlib.Core.Bool.{Bool, true, false, cond}
 use lib.ListN.{get_or, set, replicate}
 use Rattle.isa.specs.declared.opcode.Opcode.TheVariants.{LoadImmediate, LoadRegister, LoadMemory, StoreMemory, Add, Negate, ShiftRight, ShiftLeft, And, Or, Xor, Jump, Halt}
-use Rattle.isa.specs.declared.opcode.Decoded.{Decoded}
-use Rattle.isa.specs.declared.opcode.Decoded.TheVariants.{Known, Unknown}
 use Rattle.isa.specs.Word.{decode_word, digit_x, digit_y, digit_z}
 use Rattle.control.specs.Address.{reached_address}
 use Rattle.marks.specs.Owners.{joined}
@@ -59,21 +59,21 @@ module _ {R : ℕ → ℕ → ℕ → Type 0} where
     opened true t = C.none
     opened false t = t
 
-    executed_related : (d : Decoded) → Related R (executed_marks d w k) (executed_marks d w l) (executed_marks d w m)
-    executed_related (Known LoadImmediate) = record { memory = g.memory; registers = put (digit_x w) C.none; mdr = g.mdr }
-    executed_related (Known LoadRegister) = record { memory = g.memory; registers = put (digit_y w) (reg (digit_z w)); mdr = g.mdr }
-    executed_related (Known LoadMemory) = record { memory = g.memory; registers = put (digit_x w) word; mdr = word }
-    executed_related (Known StoreMemory) = record { memory = rows-set g.memory (reached_address w) (reg (digit_x w)); registers = g.registers; mdr = reg (digit_x w) }
-    executed_related (Known Add) = record { memory = g.memory; registers = put (digit_x w) both; mdr = g.mdr }
-    executed_related (Known Negate) = record { memory = g.memory; registers = put (digit_y w) (reg (digit_y w)); mdr = g.mdr }
-    executed_related (Known ShiftRight) = record { memory = g.memory; registers = put (digit_x w) (opened (shifts_out w) (reg (digit_x w))); mdr = g.mdr }
-    executed_related (Known ShiftLeft) = record { memory = g.memory; registers = put (digit_x w) (opened (shifts_out w) (reg (digit_x w))); mdr = g.mdr }
-    executed_related (Known And) = record { memory = g.memory; registers = put (digit_x w) both; mdr = g.mdr }
-    executed_related (Known Or) = record { memory = g.memory; registers = put (digit_x w) both; mdr = g.mdr }
-    executed_related (Known Xor) = record { memory = g.memory; registers = put (digit_x w) (opened (same_sources w) both); mdr = g.mdr }
-    executed_related (Known Jump) = g
-    executed_related (Known Halt) = g
-    executed_related Unknown = g
+    executed_related : (d : Option Opcode) → Related R (executed_marks d w k) (executed_marks d w l) (executed_marks d w m)
+    executed_related (Some LoadImmediate) = record { memory = g.memory; registers = put (digit_x w) C.none; mdr = g.mdr }
+    executed_related (Some LoadRegister) = record { memory = g.memory; registers = put (digit_y w) (reg (digit_z w)); mdr = g.mdr }
+    executed_related (Some LoadMemory) = record { memory = g.memory; registers = put (digit_x w) word; mdr = word }
+    executed_related (Some StoreMemory) = record { memory = rows-set g.memory (reached_address w) (reg (digit_x w)); registers = g.registers; mdr = reg (digit_x w) }
+    executed_related (Some Add) = record { memory = g.memory; registers = put (digit_x w) both; mdr = g.mdr }
+    executed_related (Some Negate) = record { memory = g.memory; registers = put (digit_y w) (reg (digit_y w)); mdr = g.mdr }
+    executed_related (Some ShiftRight) = record { memory = g.memory; registers = put (digit_x w) (opened (shifts_out w) (reg (digit_x w))); mdr = g.mdr }
+    executed_related (Some ShiftLeft) = record { memory = g.memory; registers = put (digit_x w) (opened (shifts_out w) (reg (digit_x w))); mdr = g.mdr }
+    executed_related (Some And) = record { memory = g.memory; registers = put (digit_x w) both; mdr = g.mdr }
+    executed_related (Some Or) = record { memory = g.memory; registers = put (digit_x w) both; mdr = g.mdr }
+    executed_related (Some Xor) = record { memory = g.memory; registers = put (digit_x w) (opened (same_sources w) both); mdr = g.mdr }
+    executed_related (Some Jump) = g
+    executed_related (Some Halt) = g
+    executed_related None = g
 
   pub instruction_related : Closed R → (w : ℕ) {k l m : Marks} → Related R k l m → Related R (instruction_marks w k) (instruction_marks w l) (instruction_marks w m)
   unfolding instruction_marks

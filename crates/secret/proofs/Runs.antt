@@ -1,5 +1,6 @@
 -- Two guarded runs from machines of which a report shows the same end alike: the same stop, the same count, and again the same to show.
 -- Assumes nothing.
+use Rattle.std.specs.Prelude.{Option, Some}
 use Prim.Native.Nat.{ℕ, zero, suc, ◌+◌}
 use mathlib.Core.Path.{◌≡◌, refl, ap, subst, ◌∙◌}
 use mathlib.Core.Bool.{Bool, true, false, cond}
@@ -19,7 +20,7 @@ use Rattle.vm.proofs.Steps.{Public, public_of, hidden_of, whole}
 use Rattle.secret.proofs.Veils.{instruction_level}
 
 -- the last test matters only where the word is not hidden
-guard_if_lem : (h b z w i j : Bool) (f : Fault) → (w ≡ false → i ≡ j) → guard_if h b z w i f ≡ guard_if h b z w j f
+guard_if_lem : (h b z w i j : Bool) (f : Option Fault) → (w ≡ false → i ≡ j) → guard_if h b z w i f ≡ guard_if h b z w j f
 guard_if_lem true b z w i j f e = refl
 guard_if_lem false true z w i j f e = refl
 guard_if_lem false false true w i j f e = refl
@@ -32,7 +33,7 @@ passed true c x e = (cc, cc)
 passed false c x e = (refl, e)
 
 -- where the guard lets an instruction begin, its last two tests are passed
-passes : (h b z w j : Bool) (f : Fault) → guard_if h b z w j f ≡ go → (w ≡ false) × (j ≡ false)
+passes : (h b z w j : Bool) (f : Option Fault) → guard_if h b z w j f ≡ go → (w ≡ false) × (j ≡ false)
 passes h b z w j f e =
     let x = (passed z _ _ (passed b _ _ (passed h _ _ e).1).1).1 in
     let y = passed w _ _ x in
@@ -48,7 +49,7 @@ spent p = record {
   tick = p.tick;
   ticks = p.ticks;
   halted = true;
-  fault = StepBudgetExhausted p.ir p.pc;
+  fault = Some (StepBudgetExhausted p.ir p.pc);
   counters = p.counters;
   trace = p.trace;
   touched = p.touched;

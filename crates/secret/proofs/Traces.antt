@@ -45,14 +45,14 @@ slot_record k i l j r h long e z =
 abbrev slots_of : Code → List ℕ
 slots_of m = slot_records m.trace_start m.trace_len m.columns m.numbers
 
-trace-slots : (m : Code) → Reportable m → length m.columns ≡ columns_length → slots_of m ≡ trace_records (view_of m).trace
+trace-slots : (m : Code) → Reportable m → slots_of m ≡ trace_records (view_of m).trace
 unfolding slot_records trace_records
-trace-slots m r long =
+trace-slots m r =
     let t = (view_of m).trace in
     let at : (j : ℕ) → j < m.trace_len → get_or t j no_record ≡ record_at (texts_in m.columns) m.numbers (addresses_in m.columns) (phases_in m.columns) m.lengths ((m.trace_start % trace_limit + j) % trace_limit) =
     λ j h. live_at m.trace_start m.trace_len (texts_in m.columns) m.numbers (addresses_in m.columns) (phases_in m.columns) m.lengths j r.trace h in
     each_same (λ j. slot_bytes m.columns m.numbers ((m.trace_start % trace_limit + j) % trace_limit)) (λ j. trace_record (get_or t j no_record)) 0 m.trace_len
-    (λ j h. slot_record m.columns m.numbers m.lengths ((m.trace_start % trace_limit + j) % trace_limit) (get_or t j no_record) (omega arith) long (at j (omega arith)) (r.texts j))
+    (λ j h. slot_record m.columns m.numbers m.lengths ((m.trace_start % trace_limit + j) % trace_limit) (get_or t j no_record) (omega arith) r.columns (at j (omega arith)) (r.texts j))
     ∙ ap (λ (n : ℕ). each_from (λ j. trace_record (get_or t j no_record)) 0 n) (sym (trace-length m.trace_start m.trace_len (texts_in m.columns) m.numbers (addresses_in m.columns) (phases_in m.columns) m.lengths r.trace))
 
 length-slots_of : (m : Code) → length m.columns ≡ columns_length → length (slots_of m) ≡ trace_length * m.trace_len
@@ -69,31 +69,31 @@ module _ (hid : ℕ → Bool) (m : Code) (r : Reportable m) (stop mark : ℕ) (r
   last = each_record touched_record (take m.touched_len m.touched) ++ (end_record hid stop m.state m.counters mark ++ hidden_record (hidden_count hid mm))
 
   -- the pieces in one
-  run-bytes : length m.columns ≡ columns_length → slots_of m ++ (cells ++ last) ≡ end_records hid stop (view_of m) (record { memory = mm; registers = rm; mdr = mark })
+  run-bytes : slots_of m ++ (cells ++ last) ≡ end_records hid stop (view_of m) (record { memory = mm; registers = rm; mdr = mark })
   unfolding end_records
-  run-bytes e = rw (trace-slots m r e, append_assoc (value_records hid 5 index_bytes register_count m.registers rm))
+  run-bytes = rw (trace-slots m r, append_assoc (value_records hid 5 index_bytes register_count m.registers rm))
 
   pub length_cells : length cells ≡ cells_length
   length_cells = simp (length-append, length_values hid 5 index_width register_count m.registers rm, length_values hid 6 address_width memory_words m.memory mm)
 
-  pub length_last : length m.touched ≡ memory_words → length last ≡ touched_length * m.touched_len + last_length
-  length_last e =
+  pub length_last : length last ≡ touched_length * m.touched_len + last_length
+  length_last =
       let h = r.touched in
+      let e = r.places in
       let l : length (take m.touched_len m.touched) ≡ m.touched_len = length-take-le m.touched_len m.touched (omega arith) in
       simp (length-append, length_touches (take m.touched_len m.touched), l, length_end hid stop m.state m.counters mark, length-hidden (hidden_count hid mm))
 
   -- as the three calls leave them
-  pub run-over : (d : List ℕ) (at : ℕ) → length m.columns ≡ columns_length → length m.touched ≡ memory_words → at + run_length m.trace_len m.touched_len ≤ length d
+  pub run-over : (d : List ℕ) (at : ℕ) → at + run_length m.trace_len m.touched_len ≤ length d
       → over (over (over d at (slots_of m)) (at + trace_length * m.trace_len) cells) (at + trace_length * m.trace_len + cells_length) last
       ≡ over d at (end_records hid stop (view_of m) (record { memory = mm; registers = rm; mdr = mark }))
-  run-over d at e f h =
+  run-over d at h =
       overs_eq d at ((trace_length * m.trace_len, slots_of m) ∷ (cells_length, cells) ∷ (touched_length * m.touched_len + last_length, last) ∷ [])
-      (length-slots_of m e, (length_cells, (length_last f, tt))) (omega arith)
-      ∙ ap (over d at) (run-bytes e)
+      (length-slots_of m r.columns, (length_cells, (length_last, tt))) (omega arith)
+      ∙ ap (over d at) run-bytes
 
-  pub length_run : length m.columns ≡ columns_length → length m.touched ≡ memory_words
-      → length (end_records hid stop (view_of m) (record { memory = mm; registers = rm; mdr = mark })) ≡ run_length m.trace_len m.touched_len
-  length_run e f =
-      ap length (sym (run-bytes e))
-      ∙ length-joined ((trace_length * m.trace_len, slots_of m) ∷ (cells_length, cells) ∷ (touched_length * m.touched_len + last_length, last) ∷ []) (length-slots_of m e, (length_cells, (length_last f, tt)))
+  pub length_run : length (end_records hid stop (view_of m) (record { memory = mm; registers = rm; mdr = mark })) ≡ run_length m.trace_len m.touched_len
+  length_run =
+      ap length (sym run-bytes)
+      ∙ length-joined ((trace_length * m.trace_len, slots_of m) ∷ (cells_length, cells) ∷ (touched_length * m.touched_len + last_length, last) ∷ []) (length-slots_of m r.columns, (length_cells, (length_last, tt)))
       ∙ omega arith

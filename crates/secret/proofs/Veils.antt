@@ -1,5 +1,7 @@
 -- One instruction of two guarded machines of which a report shows the same: where the two tests let it through, a report shows the same of them after it.
 -- Assumes nothing.
+use Rattle.std.specs.Prelude.{None, Option, Some}
+use Rattle.isa.specs.declared.opcode.Opcode.{Opcode}
 use Prim.Native.Nat.{ℕ}
 use mathlib.Core.Path.{◌≡◌, refl, ap, ap₂, sym, subst, ◌∙◌}
 use mathlib.Core.Bool.{Bool, true, false, cond, not, ◌&&◌, ◌||◌}
@@ -9,8 +11,6 @@ use lib.Bits.{bit_and, bit_or, bit_xor}
 use lib.Dec.{eqb}
 use lib.ListN.{get_or, set}
 use Rattle.isa.specs.declared.opcode.Opcode.TheVariants.{LoadImmediate, LoadRegister, LoadMemory, StoreMemory, Add, Negate, ShiftRight, ShiftLeft, And, Or, Xor, Jump, Halt}
-use Rattle.isa.specs.declared.opcode.Decoded.{Decoded}
-use Rattle.isa.specs.declared.opcode.Decoded.TheVariants.{Known, Unknown}
 use Rattle.isa.specs.Word.{decode_word, digit_x, digit_y, digit_z, byte_yz}
 use Rattle.control.specs.Address.{reached_address}
 use Rattle.plan.specs.Plan.{execute_text}
@@ -75,27 +75,27 @@ module _ (hid : ℕ → Bool) where
     clear c e f t = put (digit_x p.ir) (twin_cleared c e f t)
 
     -- a jump's public part by its test; no other instruction's has one
-    jumps : unseen p.ir k.registers ≡ false → public_of (finished (Known Jump) p a) ≡ public_of (finished (Known Jump) p b)
+    jumps : unseen p.ir k.registers ≡ false → public_of (finished (Some Jump) p a) ≡ public_of (finished (Some Jump) p b)
     unfolding finished decoded execute_tick count_tick execute_text
     jumps h = rw (tested_same (digit_x p.ir) g.registers h)
 
     -- from the fourth tick on, by what the word is
-    rests : (d : Decoded) → (is_jump d && unseen p.ir k.registers) ≡ false → Rests (executed_marks d p.ir k) (finished d p a) (finished d p b)
+    rests : (d : Option Opcode) → (is_jump d && unseen p.ir k.registers) ≡ false → Rests (executed_marks d p.ir k) (finished d p a) (finished d p b)
     unfolding finished decoded execute_tick count_tick execute_text
-    rests (Known LoadImmediate) h = record { public = refl; rest = refl; memory = g.memory; registers = put (digit_x p.ir) twin_refl; mdr = g.mdr }
-    rests (Known LoadRegister) h = record { public = refl; rest = refl; memory = g.memory; registers = put (digit_y p.ir) (reg (digit_z p.ir)); mdr = g.mdr }
-    rests (Known LoadMemory) h = record { public = refl; rest = refl; memory = g.memory; registers = put (digit_x p.ir) word; mdr = word }
-    rests (Known StoreMemory) h = record { public = refl; rest = refl; memory = twins_set g.memory (reached_address p.ir) (reg (digit_x p.ir)); registers = g.registers; mdr = reg (digit_x p.ir) }
-    rests (Known Add) h = record { public = refl; rest = refl; memory = g.memory; registers = put (digit_x p.ir) (twin_join J sum16 (reg (digit_y p.ir)) (reg (digit_z p.ir))); mdr = g.mdr }
-    rests (Known Negate) h = record { public = refl; rest = refl; memory = g.memory; registers = put (digit_y p.ir) (twin_map negate16 (reg (digit_y p.ir))); mdr = g.mdr }
-    rests (Known ShiftRight) h = record { public = refl; rest = refl; memory = g.memory; registers = clear (shifts_out p.ir) (λ e. (shift_cleared p.ir _ e).0) (λ e. (shift_cleared p.ir _ e).0) (twin_map (right16 (byte_yz p.ir)) (reg (digit_x p.ir))); mdr = g.mdr }
-    rests (Known ShiftLeft) h = record { public = refl; rest = refl; memory = g.memory; registers = clear (shifts_out p.ir) (λ e. (shift_cleared p.ir _ e).1) (λ e. (shift_cleared p.ir _ e).1) (twin_map (left16 (byte_yz p.ir)) (reg (digit_x p.ir))); mdr = g.mdr }
-    rests (Known And) h = record { public = refl; rest = refl; memory = g.memory; registers = put (digit_x p.ir) (twin_join J bit_and (reg (digit_y p.ir)) (reg (digit_z p.ir))); mdr = g.mdr }
-    rests (Known Or) h = record { public = refl; rest = refl; memory = g.memory; registers = put (digit_x p.ir) (twin_join J bit_or (reg (digit_y p.ir)) (reg (digit_z p.ir))); mdr = g.mdr }
-    rests (Known Xor) h = record { public = refl; rest = refl; memory = g.memory; registers = clear (same_sources p.ir) (xor_cleared p.ir a.registers) (xor_cleared p.ir b.registers) (twin_join J bit_xor (reg (digit_y p.ir)) (reg (digit_z p.ir))); mdr = g.mdr }
-    rests (Known Jump) h = record { public = jumps h; rest = refl; memory = g.memory; registers = g.registers; mdr = g.mdr }
-    rests (Known Halt) h = record { public = refl; rest = refl; memory = g.memory; registers = g.registers; mdr = g.mdr }
-    rests Unknown h = record { public = refl; rest = refl; memory = g.memory; registers = g.registers; mdr = g.mdr }
+    rests (Some LoadImmediate) h = record { public = refl; rest = refl; memory = g.memory; registers = put (digit_x p.ir) twin_refl; mdr = g.mdr }
+    rests (Some LoadRegister) h = record { public = refl; rest = refl; memory = g.memory; registers = put (digit_y p.ir) (reg (digit_z p.ir)); mdr = g.mdr }
+    rests (Some LoadMemory) h = record { public = refl; rest = refl; memory = g.memory; registers = put (digit_x p.ir) word; mdr = word }
+    rests (Some StoreMemory) h = record { public = refl; rest = refl; memory = twins_set g.memory (reached_address p.ir) (reg (digit_x p.ir)); registers = g.registers; mdr = reg (digit_x p.ir) }
+    rests (Some Add) h = record { public = refl; rest = refl; memory = g.memory; registers = put (digit_x p.ir) (twin_join J sum16 (reg (digit_y p.ir)) (reg (digit_z p.ir))); mdr = g.mdr }
+    rests (Some Negate) h = record { public = refl; rest = refl; memory = g.memory; registers = put (digit_y p.ir) (twin_map negate16 (reg (digit_y p.ir))); mdr = g.mdr }
+    rests (Some ShiftRight) h = record { public = refl; rest = refl; memory = g.memory; registers = clear (shifts_out p.ir) (λ e. (shift_cleared p.ir _ e).0) (λ e. (shift_cleared p.ir _ e).0) (twin_map (right16 (byte_yz p.ir)) (reg (digit_x p.ir))); mdr = g.mdr }
+    rests (Some ShiftLeft) h = record { public = refl; rest = refl; memory = g.memory; registers = clear (shifts_out p.ir) (λ e. (shift_cleared p.ir _ e).1) (λ e. (shift_cleared p.ir _ e).1) (twin_map (left16 (byte_yz p.ir)) (reg (digit_x p.ir))); mdr = g.mdr }
+    rests (Some And) h = record { public = refl; rest = refl; memory = g.memory; registers = put (digit_x p.ir) (twin_join J bit_and (reg (digit_y p.ir)) (reg (digit_z p.ir))); mdr = g.mdr }
+    rests (Some Or) h = record { public = refl; rest = refl; memory = g.memory; registers = put (digit_x p.ir) (twin_join J bit_or (reg (digit_y p.ir)) (reg (digit_z p.ir))); mdr = g.mdr }
+    rests (Some Xor) h = record { public = refl; rest = refl; memory = g.memory; registers = clear (same_sources p.ir) (xor_cleared p.ir a.registers) (xor_cleared p.ir b.registers) (twin_join J bit_xor (reg (digit_y p.ir)) (reg (digit_z p.ir))); mdr = g.mdr }
+    rests (Some Jump) h = record { public = jumps h; rest = refl; memory = g.memory; registers = g.registers; mdr = g.mdr }
+    rests (Some Halt) h = record { public = refl; rest = refl; memory = g.memory; registers = g.registers; mdr = g.mdr }
+    rests None h = record { public = refl; rest = refl; memory = g.memory; registers = g.registers; mdr = g.mdr }
 
   module _ (J : Joins hid) where
     -- the whole instruction, of two machines with one public part and one set of marks

@@ -14,13 +14,11 @@ use Rattle.marks.specs.Owners.{hidden_from}
 use Rattle.vm.specs.Guard.{GuardedEnd}
 use Rattle.guard.specs.Input.{Input}
 use Rattle.guard.specs.Stops.{stop_number}
-use Rattle.isa.specs.Sizes.{memory_words}
 use Rattle.secret.specs.Widths.{head_length, break_length, starts_length, run_records_at, run_length}
 use Rattle.secret.specs.Report.{head_of, start_records, break_record, each_record, end_records, end_bytes, report_on}
 use Rattle.secret.specs.Forms.{Reportable, input_records, end_from}
 use Rattle.secret.specs.Outcome.{answered_length, delivered}
 use Rattle.secret.proofs.Lengths.{length_head_of, length-starts, length-breaks}
-use Rattle.trace.specs.Trace.{columns_length}
 use Rattle.secret.proofs.Traces.{length_run}
 
 in_two : (i : Input) (e : GuardedEnd) → input_records i ++ end_bytes (hidden_from i.clearance) e ≡ report_on i e
@@ -48,13 +46,13 @@ module _ (i : Input) (stop : GuardedStop) (m : Code) (r : Reportable m) (rm mm :
   abbrev ended : GuardedEnd
   ended = end_from stop m rm mm mark
 
-  pub whole_served : length m.columns ≡ columns_length → length m.touched ≡ memory_words → run_records_at (length i.breaks) ≤ length d → {n : ℕ} {o : List ℕ}
+  pub whole_served : run_records_at (length i.breaks) ≤ length d → {n : ℕ} {o : List ℕ}
       → n ≡ run_records_at (length i.breaks) + run_length m.trace_len m.touched_len
       → o ≡ over (over d 0 (input_records i)) (run_records_at (length i.breaks)) (end_records (hidden_from i.clearance) (stop_number stop) (view_of m) (record { memory = mm; registers = rm; mdr = mark }))
       → answered_length n o ≡ delivered (report_on i ended) d
   unfolding end_bytes
-  whole_served e f h p q =
-      let l = length_run (hidden_from i.clearance) m r (stop_number stop) mark rm mm e f in
+  whole_served h p q =
+      let l = length_run (hidden_from i.clearance) m r (stop_number stop) mark rm mm in
       let k : _ ≡ length (report_on i ended) = p ∙ ap (λ (x : ℕ). run_records_at (length i.breaks) + x) (sym l) ∙ sym (length_whole i ended) in
       let b = q ∙ whole_over d i ended h in
       λ x. answered_length (k x) (b x)

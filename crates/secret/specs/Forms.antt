@@ -2,18 +2,16 @@
 -- The trace as the machine's struct holds it, in arrays, the structs of which a report can be written, and the parts that the code hands on.
 -- Assumes nothing.
 use Rattle.std.specs.Prelude.{ℕ, ◌+◌, ◌*◌, ◌%◌, ◌≤◌, ◌≡◌, List, ◌++◌, length, take, drop, get_or}
-use Rattle.trace.specs.Trace.{trace_limit, addresses_at, phases_at}
-use Rattle.isa.specs.Sizes.{memory_words, register_count, text_width}
+use Rattle.trace.specs.Trace.{columns_length, trace_limit, addresses_at, phases_at}
+use Rattle.isa.specs.Sizes.{memory_words, text_width}
 use Rattle.encoding.specs.Bytes.{each_from}
 use Rattle.isa.specs.Text.{padded, text_of}
 use Rattle.marks.specs.Owners.{hidden_from}
-use Rattle.marks.specs.Total.{hidden_count}
 use Rattle.vm.specs.declared.machine.Machine.{Machine as Code}
 use Rattle.guard.specs.declared.stops.GuardedStop.{GuardedStop}
 use Rattle.vm.specs.Calls.{view_of, image_words}
 use Rattle.vm.specs.Guard.{GuardedEnd}
-use Rattle.guard.specs.Input.{Input, break_limit}
-use Rattle.secret.specs.Widths.{report_limit}
+use Rattle.guard.specs.Input.{Input}
 use Rattle.secret.specs.Report.{head_of, start_records, break_record, each_record, trace_bytes, no_record}
 
 -- the record in slot j: columns of bytes (address and phase each in its own), numbers
@@ -24,22 +22,13 @@ slot_bytes k i j = trace_bytes (get_or i j 0) (get_or k (addresses_at + j) 0) (g
 unfoldable pub slot_records : ℕ → ℕ → List ℕ → List ℕ → List ℕ
 slot_records start n k i = each_from (λ j. slot_bytes k i ((start % trace_limit + j) % trace_limit)) 0 n
 
--- its counts are within its arrays, and each text has zeros behind its live bytes
+-- its arrays are of their sizes, its counts within them, and each text has zeros behind its live bytes
 pub record Reportable (m : Code) : Type 0 where
+  pub columns : length m.columns ≡ columns_length
+  pub places : length m.touched ≡ memory_words
   pub trace : m.trace_len ≤ trace_limit
   pub touched : m.touched_len ≤ memory_words
   pub texts : (i : ℕ) → padded text_width (text_of (get_or (view_of m).trace i no_record).text) ≡ (get_or (view_of m).trace i no_record).text.bytes
-
--- what the code that writes a report asks of its parts: clearance, buffer, marks, breakpoints; the marks of registers and of memory, the total of hidden words and the
--- machine, as the run left them
-pub record Writable (clearance : ℕ) (out k b r q : List ℕ) (n : ℕ) (m : Code) : Type 0 where
-  pub room : report_limit ≤ length out
-  pub marks : length k ≡ memory_words
-  pub breaks : length b ≤ break_limit
-  pub registers : length r ≡ register_count
-  pub memory : length q ≡ memory_words
-  pub total : n ≡ hidden_count (hidden_from clearance) q
-  pub machine : Reportable m
 
 -- the records of the input, kinds 09, 02 and 03
 abbrev pub input_records : Input → List ℕ

@@ -1,22 +1,16 @@
 -- What the call for a report answers, and the buffer that it leaves (01, sections 1 and 6).
 -- Assumes nothing.
-use Rattle.std.specs.Prelude.{ℕ, List, length, take}
+use Rattle.std.specs.Prelude.{ℕ, Ok, List, length, take}
 use Rattle.encoding.specs.Bytes.{over}
 use Rattle.encoding.specs.Answer.{Told, Outcome, outcome, unless_refused}
+use Rattle.encoding.specs.Refusal.{told}
 use Rattle.guard.specs.Input.{Input}
-use Rattle.secret.specs.declared.Reported.{Reported}
-use Rattle.secret.specs.declared.Reported.TheVariants.{Written, Refused}
 use Rattle.secret.specs.Report.{report_bytes}
 use Rattle.secret.specs.Public.{report_refusal}
 
--- what the call answers by 01's number (its last paragraph)
-abbrev pub told : Reported → Told
-told (Written n) = record { refused = 0; length = n }
-told (Refused n) = record { refused = n; length = 0 }
-
 -- a length, and the buffer
 abbrev pub answered_length : ℕ → List ℕ → Outcome Told
-answered_length n b = outcome (told (Written n)) b
+answered_length n b = outcome (told (Ok n)) b
 
 -- the report r in the first bytes of the buffer, and its length; what stands behind it is kept
 abbrev pub delivered : List ℕ → List ℕ → Outcome Told

@@ -1,9 +1,8 @@
 -- A tick of a running machine leaves a control unit that a machine can have: it ends the instruction, or goes on to the next tick.
 -- Assumes nothing.
-use Rattle.std.proofs.Common.{◌≡◌, ℕ, zero, suc, ◌+◌, ◌%◌, ◌^◌, ◌<◌, ◌≤◌, Bool, true, false, cond, leb, sym, refl, ap, ◌∙◌, arith, leb-false}
-use Rattle.isa.specs.declared.opcode.Opcode.TheVariants.{LoadImmediate, LoadRegister, LoadMemory, StoreMemory, Add, Negate, ShiftRight, ShiftLeft, And, Or, Xor, Jump, Halt}
-use Rattle.isa.specs.declared.opcode.Decoded.{Decoded}
-use Rattle.isa.specs.declared.opcode.Decoded.TheVariants.{Known, Unknown}
+use Rattle.std.proofs.Common.{◌≡◌, ℕ, zero, suc, ◌+◌, ◌%◌, ◌^◌, ◌<◌, ◌≤◌, Bool, true, false, cond, leb, sym, refl, ap, ◌∙◌, arith, leb-false, None, Option, Some}
+use Rattle.isa.specs.declared.opcode.Opcode.{Opcode}
+use Rattle.isa.specs.declared.opcode.Opcode.TheVariants.{LoadMemory, StoreMemory, Halt}
 use Rattle.isa.specs.Word.{decode_word}
 use Rattle.plan.specs.Plan.{execute_ticks_of}
 use Rattle.plan.proofs.Plans.{ticks-few}
@@ -30,21 +29,10 @@ executes : (c : Control) → c.tick ≡ 4 → c.halted ≡ false → c.execute_t
 executes c t r e h = record { machine = lawful_execute c (omega arith) e (omega arith); goes = λ _. (t, r) }
 
 -- the fourth tick, by what the word is
-decodes_next : (s : State) (d : Decoded) → decode_word s.control.ir ≡ d → s.control.halted ≡ false → Next 3 (decode_as d s).state.control
-decodes_next s (Known LoadImmediate) e r = executes _ refl r (ap execute_ticks_of (sym e)) (omega arith)
-decodes_next s (Known LoadRegister) e r = executes _ refl r (ap execute_ticks_of (sym e)) (omega arith)
-decodes_next s (Known LoadMemory) e r = executes _ refl r (ap execute_ticks_of (sym e)) (omega arith)
-decodes_next s (Known StoreMemory) e r = executes _ refl r (ap execute_ticks_of (sym e)) (omega arith)
-decodes_next s (Known Add) e r = executes _ refl r (ap execute_ticks_of (sym e)) (omega arith)
-decodes_next s (Known Negate) e r = executes _ refl r (ap execute_ticks_of (sym e)) (omega arith)
-decodes_next s (Known ShiftRight) e r = executes _ refl r (ap execute_ticks_of (sym e)) (omega arith)
-decodes_next s (Known ShiftLeft) e r = executes _ refl r (ap execute_ticks_of (sym e)) (omega arith)
-decodes_next s (Known And) e r = executes _ refl r (ap execute_ticks_of (sym e)) (omega arith)
-decodes_next s (Known Or) e r = executes _ refl r (ap execute_ticks_of (sym e)) (omega arith)
-decodes_next s (Known Xor) e r = executes _ refl r (ap execute_ticks_of (sym e)) (omega arith)
-decodes_next s (Known Jump) e r = executes _ refl r (ap execute_ticks_of (sym e)) (omega arith)
-decodes_next s (Known Halt) e r = ends 3 _ refl
-decodes_next s Unknown e r = ends 3 _ refl
+decodes_next : (s : State) (d : Option Opcode) → decode_word s.control.ir ≡ d → s.control.halted ≡ false → Next 3 (decode_as d s).state.control
+decodes_next s (Some Halt) e r = ends 3 _ refl
+decodes_next s (Some _) e r = executes _ refl r (ap execute_ticks_of (sym e)) (omega arith)
+decodes_next s None e r = ends 3 _ refl
 
 -- what an execute tick keeps of the control unit, before the next tick's number is set
 record Kept (a b : Control) : Type 0 where
@@ -56,26 +44,15 @@ record Kept (a b : Control) : Type 0 where
 kept : {a b : Control} → b.ir ≡ a.ir → b.tick ≡ a.tick → b.execute_ticks ≡ a.execute_ticks → b.halted ≡ a.halted → Kept a b
 kept i t n h = record { ir = i; tick = t; ticks = n; halted = h }
 
-keeps : (d : Decoded) (n : ℕ) (s : State) (o : Operands) → Kept s.control (execute_tick d n s o).state.control
+keeps : (d : Option Opcode) (n : ℕ) (s : State) (o : Operands) → Kept s.control (execute_tick d n s o).state.control
 unfolding execute_tick
-keeps (Known LoadImmediate) n s o = kept refl refl refl refl
-keeps (Known LoadRegister) n s o = kept refl refl refl refl
-keeps (Known LoadMemory) zero s o = kept refl refl refl refl
-keeps (Known LoadMemory) (suc zero) s o = kept refl refl refl refl
-keeps (Known LoadMemory) (suc (suc n)) s o = kept refl refl refl refl
-keeps (Known StoreMemory) zero s o = kept refl refl refl refl
-keeps (Known StoreMemory) (suc zero) s o = kept refl refl refl refl
-keeps (Known StoreMemory) (suc (suc n)) s o = kept refl refl refl refl
-keeps (Known Add) n s o = kept refl refl refl refl
-keeps (Known Negate) n s o = kept refl refl refl refl
-keeps (Known ShiftRight) n s o = kept refl refl refl refl
-keeps (Known ShiftLeft) n s o = kept refl refl refl refl
-keeps (Known And) n s o = kept refl refl refl refl
-keeps (Known Or) n s o = kept refl refl refl refl
-keeps (Known Xor) n s o = kept refl refl refl refl
-keeps (Known Jump) n s o = kept refl refl refl refl
-keeps (Known Halt) n s o = kept refl refl refl refl
-keeps Unknown n s o = kept refl refl refl refl
+keeps (Some LoadMemory) zero s o = kept refl refl refl refl
+keeps (Some LoadMemory) (suc zero) s o = kept refl refl refl refl
+keeps (Some LoadMemory) (suc (suc n)) s o = kept refl refl refl refl
+keeps (Some StoreMemory) zero s o = kept refl refl refl refl
+keeps (Some StoreMemory) (suc zero) s o = kept refl refl refl refl
+keeps (Some StoreMemory) (suc (suc n)) s o = kept refl refl refl refl
+keeps _ n s o = kept refl refl refl refl
 
 -- execute tick n
 onward_next : (n t : ℕ) (c : Control) (q : Tick) → Kept c q.state.control → c.tick ≡ t → t ≡ n + 4 → t ≤ 6 → c.halted ≡ false → c.execute_ticks ≡ execute_ticks_of (decode_word c.ir)

@@ -1,20 +1,15 @@
 -- One tick on small values (01, section 3; vm.rs, `micro_step`): the state after it, and what it does to the arrays.
 -- Assumes nothing.
-use Rattle.std.specs.Prelude.{ℕ, zero, suc, ◌+◌, ◌-◌, ◌*◌, ◌/◌, ◌%◌, ◌^◌, Bool, true, false, cond, ◌==◌, bit_and, bit_or, bit_xor, nat_le, nat_lt}
+use Rattle.std.specs.Prelude.{ℕ, zero, suc, ◌+◌, ◌-◌, ◌*◌, ◌/◌, ◌%◌, ◌^◌, Bool, true, false, cond, ◌==◌, bit_and, bit_or, bit_xor, nat_le, nat_lt, None, Option, Some, unwrap_or}
 use Rattle.isa.specs.declared.opcode.Opcode.{Opcode}
 use Rattle.isa.specs.declared.opcode.Opcode.TheVariants.{LoadImmediate, LoadRegister, LoadMemory, StoreMemory, Add, Negate, ShiftRight, ShiftLeft, And, Or, Xor, Jump, Halt}
-use Rattle.isa.specs.declared.opcode.Decoded.{Decoded}
-use Rattle.isa.specs.declared.opcode.Decoded.TheVariants.{Known, Unknown}
 use Rattle.isa.specs.Word.{decode_word, digit_x, digit_y, byte_yz}
 use Rattle.plan.specs.Plan.{execute_ticks_of}
 use Rattle.control.specs.declared.control.Fault.TheVariants.{UnknownInstruction}
-use Rattle.control.specs.declared.control.BusTransfer.TheVariants.{Idle, Read, Write}
-use Rattle.control.specs.declared.control.WordOption.{WordOption}
-use Rattle.control.specs.declared.control.WordOption.TheVariants.{Some, None}
+use Rattle.control.specs.declared.control.BusTransfer.TheVariants.{Read, Write}
 use Rattle.control.specs.declared.control.AluOperation.{AluOperation}
 use Rattle.control.specs.declared.control.AluOperation.TheVariants.{Add as ADD, Negate as NEGATE, Shr as SHR, Shl as SHL, And as AND, Or as OR, Xor as XOR}
-use Rattle.control.specs.declared.control.AluRecord.TheVariants.{Used}
-use Rattle.control.specs.declared.control.RegisterWrite.TheVariants.{Unwritten, Written}
+use Rattle.control.specs.declared.control.AluRecord.{AluRecord}
 use Rattle.control.specs.declared.control.Control.{Control}
 use Rattle.control.specs.declared.control.State.{State}
 use Rattle.control.specs.declared.control.Operands.{Operands}
@@ -24,10 +19,10 @@ use Rattle.control.specs.Control.{with_pc, with_ir, with_mar, with_mdr, with_add
 
 -- a tick that reaches no array, and one that writes a register
 abbrev pub plain : State → Tick
-plain s = record { state = s; bus = Idle; write = Unwritten; completed = false }
+plain s = record { state = s; bus = None; write = None; completed = false }
 
 abbrev pub writing : State → ℕ → ℕ → Tick
-writing s r v = record { state = s; bus = Idle; write = Written r v; completed = false }
+writing s r v = record { state = s; bus = None; write = Some (record { register = r; value = v }); completed = false }
 
 -- ---- the fetch ticks
 
@@ -39,9 +34,9 @@ abbrev pub read_word : State → ℕ → ℕ → Tick
 read_word s v t =
     let c = s.control in
     record {
-      state = with_transfer (Read c.mar v) (with_control (to_tick t (with_mdr v c)) s);
-      bus = Read c.mar v;
-      write = Unwritten;
+      state = with_transfer (Some (Read c.mar v)) (with_control (to_tick t (with_mdr v c)) s);
+      bus = Some (Read c.mar v);
+      write = None;
       completed = false;
     }
 
@@ -57,32 +52,21 @@ stopped c = to_tick 0 (with_halted true c)
 
 -- a word without an opcode ends its instruction there: halted, with a fault, and it does not count
 abbrev pub faulted_tick : State → Control → Tick
-faulted_tick s c = plain (with_fault (UnknownInstruction c.ir c.instruction_address) (with_control (stopped c) s))
+faulted_tick s c = plain (with_fault (Some (UnknownInstruction c.ir c.instruction_address)) (with_control (stopped c) s))
 
 -- HALT ends there too, and counts
 abbrev pub halting_tick : State → Control → Tick
-halting_tick s c = record { state = with_control (stopped c) s; bus = Idle; write = Unwritten; completed = true }
+halting_tick s c = record { state = with_control (stopped c) s; bus = None; write = None; completed = true }
 
 abbrev pub is_halt : Opcode → Bool
-is_halt LoadImmediate = false
-is_halt LoadRegister = false
-is_halt LoadMemory = false
-is_halt StoreMemory = false
-is_halt Add = false
-is_halt Negate = false
-is_halt ShiftRight = false
-is_halt ShiftLeft = false
-is_halt And = false
-is_halt Or = false
-is_halt Xor = false
-is_halt Jump = false
 is_halt Halt = true
+is_halt _ = false
 
-abbrev pub decode_to : Decoded → State → Control → Tick
-decode_to (Known o) s c = cond (is_halt o) (halting_tick s c) (plain (with_control (to_tick 4 c) s))
-decode_to Unknown s c = faulted_tick s c
+abbrev pub decode_to : Option Opcode → State → Control → Tick
+decode_to (Some o) s c = cond (is_halt o) (halting_tick s c) (plain (with_control (to_tick 4 c) s))
+decode_to None s c = faulted_tick s c
 
-abbrev pub decode_as : Decoded → State → Tick
+abbrev pub decode_as : Option Opcode → State → Tick
 decode_as d s = decode_to d s (next_pc (execute_ticks_of d) s.control)
 
 unfoldable pub decode_tick : State → Tick
@@ -111,9 +95,9 @@ abbrev pub write_word : State → Tick
 write_word s =
     let c = s.control in
     record {
-      state = with_transfer (Write c.mar c.mdr) s;
-      bus = Write c.mar c.mdr;
-      write = Unwritten;
+      state = with_transfer (Some (Write c.mar c.mdr)) s;
+      bus = Some (Write c.mar c.mdr);
+      write = None;
       completed = false;
     }
 
@@ -125,10 +109,6 @@ store_tick (suc (suc n)) s v = write_word s
 -- JUMP: yz to PC if Rx = R0
 abbrev pub jump_tick : State → ℕ → ℕ → Tick
 jump_tick s x z = let c = s.control in plain (with_control (with_pc (cond (x == z) (byte_yz c.ir) c.pc) c) s)
-
--- a result of the ALU to a register, with its record
-abbrev pub alu_tick : State → ℕ → AluOperation → ℕ → WordOption → ℕ → Tick
-alu_tick s r o left right v = writing (with_alu (Used o left right v) s) r v
 
 -- ADD and NEGATE wrap at 65,536
 abbrev pub sum16 : ℕ → ℕ → ℕ
@@ -144,49 +124,40 @@ right16 n a = cond (nat_lt n 16) (a / 2 ^ n) 0
 unfoldable pub left16 : ℕ → ℕ → ℕ
 left16 n a = cond (nat_lt n 16) (a * 2 ^ n % 2 ^ 16) 0
 
-abbrev pub add_tick : State → ℕ → ℕ → Tick
-add_tick s y z = alu_tick s (digit_x s.control.ir) ADD y (Some z) (sum16 y z)
+-- what the ALU makes of its operands; the right one of NEGATE does not matter
+abbrev pub alu_result : AluOperation → ℕ → ℕ → ℕ
+alu_result ADD a b = sum16 a b
+alu_result NEGATE a b = negate16 a
+alu_result SHR a b = right16 b a
+alu_result SHL a b = left16 b a
+alu_result AND a b = bit_and a b
+alu_result OR a b = bit_or a b
+alu_result XOR a b = bit_xor a b
 
-abbrev pub negate_tick : State → ℕ → Tick
-negate_tick s y = alu_tick s (digit_y s.control.ir) NEGATE y None (negate16 y)
+-- the record of an operation; a right operand that is missing is 0 to the ALU
+abbrev pub alu_record : AluOperation → ℕ → Option ℕ → AluRecord
+alu_record o left right = record { operation = o; left = left; right = right; result = alu_result o left (unwrap_or right 0) }
 
-abbrev pub shift_right_tick : State → ℕ → Tick
-shift_right_tick s x = alu_tick s (digit_x s.control.ir) SHR x (Some (byte_yz s.control.ir)) (right16 (byte_yz s.control.ir) x)
-
-abbrev pub shift_left_tick : State → ℕ → Tick
-shift_left_tick s x = alu_tick s (digit_x s.control.ir) SHL x (Some (byte_yz s.control.ir)) (left16 (byte_yz s.control.ir) x)
-
-abbrev pub and_tick : State → ℕ → ℕ → Tick
-and_tick s y z = alu_tick s (digit_x s.control.ir) AND y (Some z) (bit_and y z)
-
-abbrev pub or_tick : State → ℕ → ℕ → Tick
-or_tick s y z = alu_tick s (digit_x s.control.ir) OR y (Some z) (bit_or y z)
-
-abbrev pub xor_tick : State → ℕ → ℕ → Tick
-xor_tick s y z = alu_tick s (digit_x s.control.ir) XOR y (Some z) (bit_xor y z)
-
-abbrev pub load_immediate_tick : State → Tick
-load_immediate_tick s = writing s (digit_x s.control.ir) (byte_yz s.control.ir)
-
-abbrev pub load_register_tick : State → ℕ → Tick
-load_register_tick s z = writing s (digit_y s.control.ir) z
+-- its result to a register, with the record
+abbrev pub alu_tick : State → ℕ → AluOperation → ℕ → Option ℕ → Tick
+alu_tick s r o left right = let a = alu_record o left right in writing (with_alu (Some a) s) r a.result
 
 -- execute tick n of what the word in IR decodes to
-unfoldable pub execute_tick : Decoded → ℕ → State → Operands → Tick
-execute_tick (Known LoadImmediate) n s o = load_immediate_tick s
-execute_tick (Known LoadRegister) n s o = load_register_tick s o.z
-execute_tick (Known LoadMemory) n s o = load_tick n s o.cell
-execute_tick (Known StoreMemory) n s o = store_tick n s o.x
-execute_tick (Known Add) n s o = add_tick s o.y o.z
-execute_tick (Known Negate) n s o = negate_tick s o.y
-execute_tick (Known ShiftRight) n s o = shift_right_tick s o.x
-execute_tick (Known ShiftLeft) n s o = shift_left_tick s o.x
-execute_tick (Known And) n s o = and_tick s o.y o.z
-execute_tick (Known Or) n s o = or_tick s o.y o.z
-execute_tick (Known Xor) n s o = xor_tick s o.y o.z
-execute_tick (Known Jump) n s o = jump_tick s o.x o.zero
-execute_tick (Known Halt) n s o = plain s
-execute_tick Unknown n s o = plain s
+unfoldable pub execute_tick : Option Opcode → ℕ → State → Operands → Tick
+execute_tick (Some LoadImmediate) n s o = writing s (digit_x s.control.ir) (byte_yz s.control.ir)
+execute_tick (Some LoadRegister) n s o = writing s (digit_y s.control.ir) o.z
+execute_tick (Some LoadMemory) n s o = load_tick n s o.cell
+execute_tick (Some StoreMemory) n s o = store_tick n s o.x
+execute_tick (Some Add) n s o = alu_tick s (digit_x s.control.ir) ADD o.y (Some o.z)
+execute_tick (Some Negate) n s o = alu_tick s (digit_y s.control.ir) NEGATE o.y None
+execute_tick (Some ShiftRight) n s o = alu_tick s (digit_x s.control.ir) SHR o.x (Some (byte_yz s.control.ir))
+execute_tick (Some ShiftLeft) n s o = alu_tick s (digit_x s.control.ir) SHL o.x (Some (byte_yz s.control.ir))
+execute_tick (Some And) n s o = alu_tick s (digit_x s.control.ir) AND o.y (Some o.z)
+execute_tick (Some Or) n s o = alu_tick s (digit_x s.control.ir) OR o.y (Some o.z)
+execute_tick (Some Xor) n s o = alu_tick s (digit_x s.control.ir) XOR o.y (Some o.z)
+execute_tick (Some Jump) n s o = jump_tick s o.x o.zero
+execute_tick (Some Halt) n s o = plain s
+execute_tick None n s o = plain s
 
 -- after execute tick n: the next one, or the end of the instruction, which counts
 abbrev pub ended_tick : Tick → Tick

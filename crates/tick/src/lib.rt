@@ -8,5 +8,5 @@ mod fetch;
 mod memory;
 mod parts;
 
-pub use alu::{shifted_left, shifted_right};
+pub use alu::{alu_record, shifted_left, shifted_right};
 pub use execute::tick_of;

@@ -3,16 +3,14 @@ ghost use Rattle.std.specs.Prelude.{◌≡◌};
 ghost use Rattle.tick.specs.Tick.{to_mar_tick, load_tick, to_mdr_tick, write_word, store_tick};
 
 use crate::parts::{quiet, read_word, register_tick, with_control};
-use control::{BusTransfer, RegisterWrite, State, Tick, reached_address};
+use control::{BusTransfer, Control, State, Tick, reached_address};
 
 // The address that LOAD or STORE reaches, to MAR.
 fn to_mar(s: State) -> Tick
     ensures { result ≡ to_mar_tick s }
 {
-    let mut c = s.control;
-    let address = reached_address(c.ir);
-    c.mar = address;
-    quiet(with_control(s, c))
+    let mar = reached_address(s.control.ir);
+    quiet(with_control(s, Control { mar, ..s.control }))
 }
 
 pub(crate) fn load_tick(s: State, n: u8, cell: u16) -> Tick
@@ -20,49 +18,33 @@ pub(crate) fn load_tick(s: State, n: u8, cell: u16) -> Tick
 {
     match n {
         0 => to_mar(s),
-        1 => {
-            let tick = s.control.tick;
-            read_word(s, cell, tick)
-        }
-        _ => {
-            let x = (s.control.ir / 256 % 16) as u8;
-            let value = s.control.mdr;
-            register_tick(s, x, value)
-        }
+        1 => read_word(s, cell, s.control.tick),
+        _ => register_tick(s, (s.control.ir / 256 % 16) as u8, s.control.mdr),
     }
 }
 
 // A register to MDR.
-fn to_mdr(s: State, value: u16) -> Tick
-    ensures { result ≡ to_mdr_tick s value }
+fn to_mdr(s: State, mdr: u16) -> Tick
+    ensures { result ≡ to_mdr_tick s mdr }
 {
-    let mut c = s.control;
-    c.mdr = value;
-    quiet(with_control(s, c))
+    quiet(with_control(s, Control { mdr, ..s.control }))
 }
 
 // MDR to the word at MAR, over the bus.
 fn write_word(s: State) -> Tick
     ensures { result ≡ write_word s }
 {
-    let c = s.control;
-    let fault = s.fault;
-    let last_alu = s.last_alu;
-    let bus = BusTransfer::Write {
-        address: c.mar,
-        value: c.mdr,
-    };
+    let bus = Some(BusTransfer::Write {
+        address: s.control.mar,
+        value: s.control.mdr,
+    });
     let state = State {
-        control: c,
-        fault,
         last_transfer: bus,
-        last_alu,
+        ..s
     };
     Tick {
-        state,
         bus,
-        write: RegisterWrite::Unwritten,
-        completed: false,
+        ..quiet(state)
     }
 }
 

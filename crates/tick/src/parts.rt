@@ -9,15 +9,7 @@ use control::{BusTransfer, Control, RegisterWrite, State, Tick};
 pub(crate) fn with_control(s: State, control: Control) -> State
     ensures { result ≡ with_control control s }
 {
-    let fault = s.fault;
-    let last_transfer = s.last_transfer;
-    let last_alu = s.last_alu;
-    State {
-        control,
-        fault,
-        last_transfer,
-        last_alu,
-    }
+    State { control, ..s }
 }
 
 // A tick that reaches no array.
@@ -26,8 +18,8 @@ pub(crate) fn quiet(state: State) -> Tick
 {
     Tick {
         state,
-        bus: BusTransfer::Idle,
-        write: RegisterWrite::Unwritten,
+        bus: None,
+        write: None,
         completed: false,
     }
 }
@@ -37,10 +29,8 @@ pub(crate) fn register_tick(state: State, register: u8, value: u16) -> Tick
     ensures { result ≡ writing state register value }
 {
     Tick {
-        state,
-        bus: BusTransfer::Idle,
-        write: RegisterWrite::Written { register, value },
-        completed: false,
+        write: Some(RegisterWrite { register, value }),
+        ..quiet(state)
     }
 }
 
@@ -48,25 +38,22 @@ pub(crate) fn register_tick(state: State, register: u8, value: u16) -> Tick
 pub(crate) fn read_word(s: State, value: u16, tick: u8) -> Tick
     ensures { result ≡ read_word s value tick }
 {
-    let mut c = s.control;
-    let fault = s.fault;
-    let last_alu = s.last_alu;
-    let bus = BusTransfer::Read {
-        address: c.mar,
+    let bus = Some(BusTransfer::Read {
+        address: s.control.mar,
         value,
+    });
+    let control = Control {
+        mdr: value,
+        tick,
+        ..s.control
     };
-    c.mdr = value;
-    c.tick = tick;
     let state = State {
-        control: c,
-        fault,
+        control,
         last_transfer: bus,
-        last_alu,
+        ..s
     };
     Tick {
-        state,
         bus,
-        write: RegisterWrite::Unwritten,
-        completed: false,
+        ..quiet(state)
     }
 }

@@ -9,6 +9,7 @@ use Rattle.trace.specs.Touched.{distinct}
 use Rattle.encoding.specs.Bytes.{member}
 use Rattle.isa.proofs.Texts.{zeros_at}
 use Rattle.control.proofs.Lawfuls.{true-false}
+use Rattle.trace.proofs.Lists.{mem_last}
 
 -- ---- No address twice, by a table of those seen.
 
@@ -49,20 +50,6 @@ split l i n h b =
 -- the first i + 1
 pub one_more_lem : (l : List ℕ) (i : ℕ) → i < length l → take (i + 1) l ≡ take i l ++ (get_or l i 0 ∷ [])
 one_more_lem l i h = rw (add-one, take-suc l i 0 h)
-
--- a is there, or is the one added
-mem_last : (a x : ℕ) (p : List ℕ) → member a (p ++ (x ∷ [])) ≡ cond (member a p) true (eqb x a)
-unfolding member
-mem_last a x [] = go (eqb x a)
-  where
-    go : (b : Bool) → cond b true false ≡ b
-    go true = refl
-    go false = refl
-mem_last a x (y ∷ ys) = go (eqb y a) (mem_last a x ys)
-  where
-    go : (b : Bool) → member a (ys ++ (x ∷ [])) ≡ cond (member a ys) true (eqb x a) → cond b true (member a (ys ++ (x ∷ []))) ≡ cond (cond b true (member a ys)) true (eqb x a)
-    go true h = refl
-    go false h = h
 
 -- the table's entry of the one added
 bit : (m : Bool) → ◌≡◌ {A = ℕ} (cond (cond m true true) 1 0) 1

@@ -1,8 +1,7 @@
 -- Laws of `distinct` (`specs/Touched.antt`): few numbers are different and small.
 -- Assumes nothing.
-use Rattle.std.proofs.Common.{◌≡◌, ℕ, zero, suc, ◌+◌, ◌<◌, ◌≤◌, Bool, true, false, cond, eqb, List, [], ◌∷◌, ◌++◌, length, get_or, drop, set, sym, refl, ap, add-one, arith, drop-cons, ne_eqb, eqb-true}
+use Rattle.std.proofs.Common.{◌+◌, ◌≡◌, ℕ, zero, suc, ◌<◌, ◌≤◌, Bool, true, false, cond, eqb, List, [], ◌∷◌, ◌++◌, length, get_or, set, sym, refl, ap, arith, ne_eqb, eqb-true}
 use borrow.Author.Tests.{eqb-false}
-use lib.Seq.{drop-length}
 use Rattle.control.proofs.Lawfuls.{true-false}
 use Rattle.trace.specs.Touched.{distinct}
 use Rattle.encoding.specs.Bytes.{member}
@@ -23,7 +22,7 @@ without n [] = []
 without n (x ∷ xs) = keep (eqb x n) x (without n xs)
 
 -- a test or another is false: both are
-pub pick_false : (b m : Bool) → cond b true m ≡ false → (b ≡ false) × (m ≡ false)
+pick_false : (b m : Bool) → cond b true m ≡ false → (b ≡ false) × (m ≡ false)
 pick_false true m e = absurd (true-false e)
 pick_false false m e = (refl, e)
 
@@ -113,23 +112,19 @@ pub full : (n a : ℕ) (l : List ℕ) → distinct l ≡ true → Below n l → 
 unfolding distinct
 full n a l d b h m = few n (a ∷ l) (simp (m, d)) (h, b)
 
--- the test from i on looks at the i-th first
-pub distinct-drop : (l : List ℕ) (i : ℕ) → i < length l → distinct (drop i l) ≡ cond (member (get_or l i 0) (drop (i + 1) l)) false (distinct (drop (i + 1) l))
-unfolding distinct
-distinct-drop l i h = rw (add-one, drop-cons l i 0)
-
--- nothing is left at the end
-pub distinct_end : (l : List ℕ) (i : ℕ) → i ≡ length l → distinct (drop i l) ≡ true
-unfolding distinct
-distinct_end l i e = rw (e, drop-length)
-
--- a is not there, nor is it the one added
-mem_snoc : (a x : ℕ) (l : List ℕ) → eqb x a ≡ false → member a l ≡ false → member a (l ++ (x ∷ [])) ≡ false
+-- a is there, or is the one added
+pub mem_last : (a x : ℕ) (p : List ℕ) → member a (p ++ (x ∷ [])) ≡ cond (member a p) true (eqb x a)
 unfolding member
-mem_snoc a x [] e h = rw e
-mem_snoc a x (y ∷ ys) e h =
-    let p = pick_false (eqb y a) (member a ys) h in
-    rw p.0 (mem_snoc a x ys e p.1)
+mem_last a x [] = go (eqb x a)
+  where
+    go : (b : Bool) → cond b true false ≡ b
+    go true = refl
+    go false = refl
+mem_last a x (y ∷ ys) = go (eqb y a) (mem_last a x ys)
+  where
+    go : (b : Bool) → member a (ys ++ (x ∷ [])) ≡ cond (member a ys) true (eqb x a) → cond b true (member a (ys ++ (x ∷ []))) ≡ cond (cond b true (member a ys)) true (eqb x a)
+    go true h = refl
+    go false h = h
 
 -- one that is not there may be added
 pub distinct_snoc : (a : ℕ) (l : List ℕ) → distinct l ≡ true → member a l ≡ false → distinct (l ++ (a ∷ [])) ≡ true
@@ -139,12 +134,13 @@ distinct_snoc a (x ∷ xs) d m =
     let p = pick_true (member x xs) (distinct xs) d in
     let q = pick_false (eqb x a) (member a xs) m in
     let n : eqb a x ≡ false = ne_eqb a x (λ e. eqb-false x a q.0 (sym e)) in
-    rw (mem_snoc x a xs n p.0) (distinct_snoc a xs p.1 q.1)
+    let m : member x (xs ++ (a ∷ [])) ≡ false = simp (mem_last, p.0, n) in
+    rw m (distinct_snoc a xs p.1 q.1)
 
--- writing a number below h leaves them below it
-pub below_set : (h : ℕ) (l : List ℕ) (i v : ℕ) → ((j : ℕ) → get_or l j 0 < h) → v < h → (j : ℕ) → get_or (set l i v) j 0 < h
-below_set h [] i v f b j = f j
-below_set h (x ∷ xs) zero v f b zero = b
-below_set h (x ∷ xs) zero v f b (suc j) = f (suc j)
-below_set h (x ∷ xs) (suc i) v f b zero = f 0
-below_set h (x ∷ xs) (suc i) v f b (suc j) = below_set h xs i v (λ k. f (suc k)) b j
+-- the first n are below h: so is one more, where a number below h is written behind them
+pub below_set : (h : ℕ) (l : List ℕ) (n v : ℕ) → ((j : ℕ) → j < n → get_or l j 0 < h) → v < h → (j : ℕ) → j < n + 1 → get_or (set l n v) j 0 < h
+below_set h [] n v f b j k = omega (arith, b)
+below_set h (x ∷ xs) zero v f b zero k = b
+below_set h (x ∷ xs) zero v f b (suc j) k = absurd (omega (arith, k))
+below_set h (x ∷ xs) (suc n) v f b zero k = f 0 (omega arith)
+below_set h (x ∷ xs) (suc n) v f b (suc j) k = below_set h xs n v (λ i p. f (suc i) (omega (arith, p))) b j (omega (arith, k))

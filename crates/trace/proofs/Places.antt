@@ -1,10 +1,10 @@
 -- The array of the touched addresses: one address more.
 -- Assumes nothing.
-use Rattle.std.proofs.Common.{◌≡◌, ℕ, ◌+◌, ◌<◌, Bool, true, false, cond, ltb, List, [], ◌∷◌, ◌++◌, take, set, refl, add-one, arith, length-set, length-take-le, get_or-take, take-suc-set, lt-ltb}
+use Rattle.std.proofs.Common.{◌≡◌, ℕ, ◌+◌, ◌<◌, Bool, true, false, cond, ltb, List, [], ◌∷◌, ◌++◌, take, set, refl, add-one, arith, length-set, length-take-le, get_or-take, take-suc-set, lt-ltb, Option, Some, None}
 use Rattle.isa.specs.Sizes.{memory_words}
 use Rattle.encoding.specs.Bytes.{member}
 use Rattle.control.specs.declared.control.BusTransfer.{BusTransfer}
-use Rattle.control.specs.declared.control.BusTransfer.TheVariants.{Idle, Read, Write}
+use Rattle.control.specs.declared.control.BusTransfer.TheVariants.{Read, Write}
 use Rattle.trace.specs.Touched.{noted, touched_by, Addressed, TouchFit}
 use Rattle.trace.specs.Forms.{Places, places_of, note_in, touch_in}
 use Rattle.trace.proofs.Lists.{below_of, full, distinct_snoc, below_set}
@@ -14,7 +14,7 @@ module _ (items : List ℕ) (n a : ℕ) (f : TouchFit n items) (of_memory : a < 
   room : member a (take n items) ≡ false → n < memory_words
   room m =
       let e = length-take-le n items (omega (arith, f.count, f.long)) in
-      let b = below_of memory_words (take n items) (λ i h. rw (get_or-take n items i 0 (omega arith)) (f.below i)) in
+      let b = below_of memory_words (take n items) (λ i h. rw (get_or-take n items i 0 (omega arith)) (f.below i (omega arith))) in
       omega (arith, full memory_words a (take n items) f.differ b of_memory m)
 
   added : n < memory_words → take (n + 1) (set items n a) ≡ take n items ++ (a ∷ [])
@@ -44,9 +44,9 @@ module _ (items : List ℕ) (n a : ℕ) (f : TouchFit n items) (of_memory : a < 
       go false m = let h = room m in rw (lt-ltb n memory_words h, m) (added h, fits h m)
 
 -- an address written into the next place is noted in the live ones
-pub touched-live : (b : BusTransfer) (q : Places) {q' : Places} → q' ≡ touch_in b q → Addressed b → TouchFit q.count q.items
+pub touched-live : (b : Option BusTransfer) (q : Places) {q' : Places} → q' ≡ touch_in b q → Addressed b → TouchFit q.count q.items
     → (take q'.count q'.items ≡ touched_by b (take q.count q.items)) × TouchFit q'.count q'.items
 unfolding touch_in
-touched-live Idle q e h f = rw e (refl, f)
-touched-live (Read a v) q e h f = rw e (refl, f)
-touched-live (Write a v) q e h f = rw e (notes q.items q.count a f h)
+touched-live None q e h f = rw e (refl, f)
+touched-live (Some (Read a v)) q e h f = rw e (refl, f)
+touched-live (Some (Write a v)) q e h f = rw e (notes q.items q.count a f h)

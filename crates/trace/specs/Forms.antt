@@ -1,25 +1,24 @@
 -- What the code's helper functions compute on lent arrays. A reader need not believe it: the proofs show that it is what the other files say, `Writes` that
 -- `registers_by` is `registers_after`, `Places` that `touch_in` is `touched_by`, `Rings` that `push_into` is `pushed`.
 -- Assumes nothing.
-use Rattle.std.specs.Prelude.{ℕ, ◌+◌, ◌*◌, ◌%◌, cond, ltb, List, [], ◌∷◌, take, nat_lt, slice_set}
+use Rattle.std.specs.Prelude.{ℕ, ◌+◌, ◌*◌, ◌%◌, cond, ltb, List, [], ◌∷◌, take, nat_lt, slice_set, Option, Some, None}
 use Rattle.std.specs.Borrow.{MutBor}
 use denote.Triple.Both.{Both}
 use Rattle.isa.specs.Sizes.{memory_words, register_count, text_width}
-use Rattle.isa.specs.declared.text.Text.{Text}
+use Rattle.isa.specs.Text.{Text}
 use Rattle.encoding.specs.Bytes.{member, over}
 use Rattle.control.specs.declared.control.BusTransfer.{BusTransfer}
-use Rattle.control.specs.declared.control.BusTransfer.TheVariants.{Idle, Read, Write}
+use Rattle.control.specs.declared.control.BusTransfer.TheVariants.{Read, Write}
 use Rattle.control.specs.declared.control.RegisterWrite.{RegisterWrite}
-use Rattle.control.specs.declared.control.RegisterWrite.TheVariants.{Unwritten, Written}
 use Rattle.trace.specs.declared.records.TraceRecord.{TraceRecord}
 use Rattle.trace.specs.declared.records.Ring.{Ring}
 use Rattle.trace.specs.Trace.{trace_limit, addresses_at, phases_at, Arrays, arrays_of}
 
 -- ---- of a register's number the low digit counts
 
-abbrev pub registers_by : RegisterWrite → List ℕ → List ℕ
-registers_by Unwritten r = r
-registers_by (Written i v) r = slice_set r (i % register_count) v
+abbrev pub registers_by : Option RegisterWrite → List ℕ → List ℕ
+registers_by None r = r
+registers_by (Some w) r = slice_set r (w.register % register_count) w.value
 
 -- ---- the touched addresses: their array, and how many of its places are live
 
@@ -37,10 +36,10 @@ note_in a q =
     (cond (member a (take q.count q.items)) q (places_of (q.count + 1) (slice_set q.items q.count a)))
     q
 
-unfoldable pub touch_in : BusTransfer → Places → Places
-touch_in Idle q = q
-touch_in (Read a v) q = q
-touch_in (Write a v) q = note_in a q
+unfoldable pub touch_in : Option BusTransfer → Places → Places
+touch_in None q = q
+touch_in (Some (Read a v)) q = q
+touch_in (Some (Write a v)) q = note_in a q
 
 -- ---- the trace: the ring with its three arrays
 

@@ -8,6 +8,7 @@ use crate::{COLUMNS_LENGTH, TRACE_LIMIT};
 use plan::tick_text;
 
 // The records of an instruction of n ticks: micro operations before it, its address, whether a jump is taken.
+#[tactic(auto, using(crate::proofs::Logs::line_next, crate::proofs::Logs::line_end, crate::proofs::Logs::more_at))]
 pub fn push_lines(
     ring: Ring,
     n: u8,
@@ -22,17 +23,14 @@ pub fn push_lines(
     ensures { arrays_at_last result columns numbers lengths
         ≡ logged_in (lines n 0 before address taken word) (arrays_at_first ring columns numbers lengths) }
 {
-    let mut q = ring;
-    let mut tick: u8 = 0;
-    let mut number = before;
-    while tick < n {
-        let count = std::num::wrapping_add_u64(number, 1);
+    let mut last = ring;
+    for tick in 0..n {
         let text = tick_text(tick, taken, word);
+        let number = before.wrapping_add(u64::from(tick) + 1);
         let phase = tick_phase(tick);
-        let next = push_trace(q, text, count, address, phase, columns, numbers, lengths);
-        q = next;
-        number = count;
-        tick += 1;
+        last = push_trace(
+            last, text, number, address, phase, columns, numbers, lengths,
+        );
     }
-    q
+    last
 }

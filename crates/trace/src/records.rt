@@ -33,30 +33,25 @@ fn put_text(t: Text, at: usize, out: &mut [u8])
     requires { (at < trace_limit) × (length out.old ≡ columns_length) }
     ensures { out.new ≡ over out.old (at * text_width) t.bytes }
 {
-    let mut i = 0;
-    while i < TEXT_WIDTH {
-        out[at * TEXT_WIDTH + i] = t.bytes[i];
-        i += 1;
-    }
+    let from = at * TEXT_WIDTH;
+    out[from..from + TEXT_WIDTH].copy_from_slice(&t.bytes);
 }
 
 // The ring with one record more; of 512 the oldest goes.
+#[tactic(auto, unfolding(crate::specs::Forms::next_ring))]
 fn next_ring(ring: Ring) -> Ring
     ensures { result ≡ next_ring ring }
 {
     let from = ring.start % TRACE_LIMIT;
-    let len = ring.len;
-    if len < TRACE_LIMIT {
-        let more = len + 1;
+    if ring.len < TRACE_LIMIT {
         return Ring {
             start: from,
-            len: more,
+            len: ring.len + 1,
         };
     }
-    let second = from + 1;
     Ring {
-        start: second % TRACE_LIMIT,
-        len,
+        start: (from + 1) % TRACE_LIMIT,
+        ..ring
     }
 }
 
@@ -64,11 +59,12 @@ fn next_ring(ring: Ring) -> Ring
 pub fn tick_phase(tick: u8) -> u8
     ensures { result ≡ tick_phase tick }
 {
-    let phase = phase_of(tick);
-    phase.number()
+    phase_of(tick).number()
 }
 
-// One record more; of 512 the oldest goes.
+// One record more; of 512 the oldest goes. Each array is lent alone, here and in `push_lines`: the machine has them as
+// public fields, which no struct may take in.
+#[tactic(auto, unfolding(crate::specs::Forms::push_into, crate::specs::Forms::put_columns))]
 pub fn push_trace(
     ring: Ring,
     text: Text,

@@ -1,13 +1,14 @@
 -- A whole instruction is what its ticks are, and a run of whole instructions is the run.
 -- Assumes nothing.
+use Rattle.std.specs.Prelude.{None, Option, Some, Result}
+use Rattle.encoding.specs.declared.refusal.Refusal.{Refusal}
+use Rattle.isa.specs.declared.opcode.Opcode.{Opcode}
 use Prim.Native.Nat.{ℕ, zero, suc, ◌+◌}
 use mathlib.Core.Path.{◌≡◌, refl, ap, ◌∙◌}
 use mathlib.Core.Bool.{false}
 use mathlib.Core.List.{List}
 use lib.ListN.{get_or}
 use Rattle.isa.specs.declared.opcode.Opcode.TheVariants.{LoadImmediate, LoadRegister, LoadMemory, StoreMemory, Add, Negate, ShiftRight, ShiftLeft, And, Or, Xor, Jump, Halt}
-use Rattle.isa.specs.declared.opcode.Decoded.{Decoded}
-use Rattle.isa.specs.declared.opcode.Decoded.TheVariants.{Known, Unknown}
 use Rattle.isa.specs.Word.{decode_word}
 use Rattle.isa.specs.Format.{fill}
 use Rattle.plan.specs.Plan.{execute_ticks_of, fetch_text, tick_template, tick_text}
@@ -27,46 +28,46 @@ use Rattle.direct.specs.Light.{Light, word_at, work_of, taken_by, records_of}
 use Rattle.vm.specs.Direct.{light_of, whole_by, last_done, direct_on, direct, direct_run}
 
 -- with the word and its opcode named
-known : Decoded → ℕ → Light → List TraceRecord → Machine
+known : Option Opcode → ℕ → Light → List TraceRecord → Machine
 known d w l t =
     whole_by d w l (logged (lines (4 + execute_ticks_of d) 0 l.counters.micro_operations l.pc (taken_by w l.registers) w) t) (work_of d w l)
 
-law : (d : Decoded) (w : ℕ) (m : Machine) → m.state.control.halted ≡ false → decode_word w ≡ d
+law : (d : Option Opcode) (w : ℕ) (m : Machine) → m.state.control.halted ≡ false → decode_word w ≡ d
     → finished d (fetched w (public_of m)) (fetched_hidden m.state.control.pc w (hidden_of m)) ≡ known d w (light_of m) m.trace
 unfolding known lines logged fetched fetched_hidden decoded finished execute_tick count_tick tick_text tick_template fetch_text fill
-law (Known LoadImmediate) w m h e = rw (h, e)
-law (Known LoadRegister) w m h e = rw (h, e)
-law (Known LoadMemory) w m h e = rw (h, e)
-law (Known StoreMemory) w m h e = rw (h, e)
-law (Known Add) w m h e = rw (h, e)
-law (Known Negate) w m h e = rw (h, e)
-law (Known ShiftRight) w m h e = rw (h, e)
-law (Known ShiftLeft) w m h e = rw (h, e)
-law (Known And) w m h e = rw (h, e)
-law (Known Or) w m h e = rw (h, e)
-law (Known Xor) w m h e = rw (h, e)
-law (Known Jump) w m h e = rw (h, e)
-law (Known Halt) w m h e = refl
-law Unknown w m h e = refl
+law (Some LoadImmediate) w m h e = rw (h, e)
+law (Some LoadRegister) w m h e = rw (h, e)
+law (Some LoadMemory) w m h e = rw (h, e)
+law (Some StoreMemory) w m h e = rw (h, e)
+law (Some Add) w m h e = rw (h, e)
+law (Some Negate) w m h e = rw (h, e)
+law (Some ShiftRight) w m h e = rw (h, e)
+law (Some ShiftLeft) w m h e = rw (h, e)
+law (Some And) w m h e = rw (h, e)
+law (Some Or) w m h e = rw (h, e)
+law (Some Xor) w m h e = rw (h, e)
+law (Some Jump) w m h e = rw (h, e)
+law (Some Halt) w m h e = refl
+law None w m h e = refl
 
 -- what the last tick did beside that
-done_law : (d : Decoded) (w : ℕ) (m : Machine) → m.state.control.halted ≡ false → decode_word w ≡ d
+done_law : (d : Option Opcode) (w : ℕ) (m : Machine) → m.state.control.halted ≡ false → decode_word w ≡ d
     → finished_done d (fetched w (public_of m)) (fetched_hidden m.state.control.pc w (hidden_of m)) ≡ last_done d (work_of d w (light_of m))
 unfolding fetched fetched_hidden decoded finished_done execute_tick count_tick
-done_law (Known LoadImmediate) w m h e = rw h
-done_law (Known LoadRegister) w m h e = rw h
-done_law (Known LoadMemory) w m h e = rw h
-done_law (Known StoreMemory) w m h e = rw h
-done_law (Known Add) w m h e = rw h
-done_law (Known Negate) w m h e = rw h
-done_law (Known ShiftRight) w m h e = rw h
-done_law (Known ShiftLeft) w m h e = rw h
-done_law (Known And) w m h e = rw h
-done_law (Known Or) w m h e = rw h
-done_law (Known Xor) w m h e = rw h
-done_law (Known Jump) w m h e = rw h
-done_law (Known Halt) w m h e = refl
-done_law Unknown w m h e = refl
+done_law (Some LoadImmediate) w m h e = rw h
+done_law (Some LoadRegister) w m h e = rw h
+done_law (Some LoadMemory) w m h e = rw h
+done_law (Some StoreMemory) w m h e = rw h
+done_law (Some Add) w m h e = rw h
+done_law (Some Negate) w m h e = rw h
+done_law (Some ShiftRight) w m h e = rw h
+done_law (Some ShiftLeft) w m h e = rw h
+done_law (Some And) w m h e = rw h
+done_law (Some Or) w m h e = rw h
+done_law (Some Xor) w m h e = rw h
+done_law (Some Jump) w m h e = rw h
+done_law (Some Halt) w m h e = refl
+done_law None w m h e = refl
 
 -- of every running machine at tick 0: the machine, the number of its ticks, and what the last one did
 pub direct-steps : (m : Machine) → m.state.control.tick ≡ 0 → m.state.control.halted ≡ false
@@ -93,7 +94,7 @@ direct-run_is_run b k zero m z = refl
 direct-run_is_run b k (suc n) m z =
     by (verdict b k (suc n) m) refl (λ h. ap (run b (k + 1) n) (direct_is_step m z h) ∙ direct-run_is_run b (k + 1) n (direct m) (direct-tick m))
   where
-    by : (v : Verdict RunStop) → verdict b k (suc n) m ≡ v → (m.state.control.halted ≡ false → run b (k + 1) n (step_instruction m).machine ≡ direct_run b (k + 1) n (direct m))
+    by : (v : Verdict (Result RunStop Refusal)) → verdict b k (suc n) m ≡ v → (m.state.control.halted ≡ false → run b (k + 1) n (step_instruction m).machine ≡ direct_run b (k + 1) n (direct m))
         → after v (run_end k m) (λ u. run b (k + 1) n (step_instruction m).machine) ≡ after v (run_end k m) (λ u. direct_run b (k + 1) n (direct m))
     by go e x = x (running b k (suc n) m e).0
     by (stop c) e x = refl

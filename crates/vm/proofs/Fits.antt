@@ -1,35 +1,33 @@
 -- From the test of a state to what the ticks need of it and back, and the answers of the calls by their tests.
 -- Assumes nothing.
+use Rattle.std.specs.Prelude.{Ok}
 use Prim.Native.Nat.{ℕ, zero, suc, ◌≤◌, ◌-◌}
 use native.Mathlib.Omega.{arith}
 use mathlib.Core.Path.{◌≡◌, refl, ap, sym, ◌∙◌}
-use mathlib.Core.Bool.{Bool, true, false, cond}
+use mathlib.Core.Bool.{Bool, true, false}
 use mathlib.Core.List.{List, [], ◌∷◌, map}
-use borrow.Author.Tests.{eq-eqb, ne_eqb, leb-true, le-leb}
+use borrow.Author.Tests.{leb-true, le-leb}
 use lib.Dec.{leb}
+use Rattle.std.specs.Prelude.{Result, Ok}
+use Rattle.encoding.specs.declared.refusal.Refusal.{Refusal}
 use lib.ListN.{length, drop, get_or, length-map}
 use Rattle.isa.specs.Sizes.{memory_words}
-use Rattle.isa.specs.declared.text.Text.{Text}
+use Rattle.isa.specs.Text.{Text}
 use Rattle.isa.specs.Text.{text}
 use Rattle.disasm.specs.Disassembly.{disassemble_text}
 use Rattle.plan.specs.declared.plan.TransferPlan.{TransferPlan}
-use Rattle.control.specs.Count.{over_counted}
 use Rattle.control.specs.Lawful.{lawful}
-use Rattle.vm.specs.declared.machine.Machine.{Machine as Code}
 use Rattle.trace.specs.declared.records.TraceRecord.{TraceRecord}
 use Rattle.vm.specs.declared.parts.Done.{Done}
-use Rattle.guard.specs.declared.stops.RunStop.TheVariants.{AlreadyHalted, Refused}
 use Rattle.trace.specs.Trace.{live_texts, live_lengths, short_texts, take_last, texts_in, addresses_in, phases_in}
 use Rattle.vm.specs.Machine.{Machine, next_text, next_done, micro_step}
 use Rattle.vm.specs.Instruction.{Steps, started, steps, step_instruction, tick_texts, texts_from}
-use Rattle.vm.specs.Run.{run}
 use Rattle.vm.specs.View.{Parts, view}
-use Rattle.vm.specs.Refusal.{parts_ok, step_refusal_if, step_refusal}
+use Rattle.vm.specs.Refusal.{parts_ok}
 use Rattle.vm.specs.Forms.{Sizes, Fit, sound}
-use Rattle.vm.specs.StepCalls.{answered, has_fault, op_after, micro_op, effect_if, instruction_report_on, halted_texts, halted_report, instruction_report}
-use Rattle.vm.specs.RunCalls.{run_call}
+use Rattle.vm.specs.Calls.{answered}
+use Rattle.vm.specs.StepCalls.{has_fault, op_after, micro_op, effect_if, instruction_report_on, halted_texts, halted_report, instruction_report}
 use Rattle.isa.proofs.Truths.{both}
-use Rattle.control.proofs.Lawfuls.{true-false}
 use Rattle.vm.proofs.Newest.{texts_of_lem, trace-length, one_step, made, few}
 
 pub fit : (q : Parts) (n : ℕ) → sound n q ≡ true → Sizes q → Fit q
@@ -43,7 +41,7 @@ fit q n e z =
     let e5 = both (leb c.touched_len memory_words) _ e4.1 in
     record {
       control = e1.0;
-      touched = record { count = leb-true c.touched_len memory_words e5.0; long = z.touched; below = z.bytes; differ = e5.1 };
+      touched = record { count = leb-true c.touched_len memory_words e5.0; long = z.touched; below = λ i _. z.bytes i; differ = e5.1 };
       trace = record { count = leb-true c.trace_len 512 e3.0; columns = z.columns; numbers = z.numbers; lengths = z.lengths; short = e4.0 };
     }
 
@@ -90,61 +88,8 @@ module _ (f n : ℕ) (p : Parts) {q : Parts} (d : Done) (small : f ≤ 512) (fp 
 
 -- ---- `micro_step` and `step_instruction` by their tests
 
-no_refusal : (ok halted far : Bool) → step_refusal_if ok halted far ≡ 0 → ok ≡ true
-no_refusal true halted far e = refl
-no_refusal false halted far e = absurd (omega (arith, e))
-
-pub served_ok : (q : Parts) (n r : ℕ) → r ≡ step_refusal q.core n q.touched q.lengths → r ≡ 0 → sound n q ≡ true
-unfolding step_refusal
-served_ok q n r e z = no_refusal (sound n q) q.core.state.control.halted (over_counted q.core.counters) (sym e ∙ z)
-
-module _ {A : Type 0} (n k : ℕ) (h : Bool) (a none still moving : A) (m next : Machine) (e : n ≡ k) where
-  pub refuses : (n ≡ 0 → ⊥) → a ≡ none → answered n a m ≡ effect_if k h none still moving m next
-  refuses z s = rw (← e, ne_eqb n 0 z, s)
-
-  pub stays : n ≡ 0 → h ≡ true → a ≡ still → answered n a m ≡ effect_if k h none still moving m next
-  stays z t s = rw (← e, eq-eqb n 0 z, t, s)
-
-  pub moves : {m' : Machine} → n ≡ 0 → h ≡ false → a ≡ moving → m' ≡ next → answered n a m' ≡ effect_if k h none still moving m next
-  moves z t s w = rw (← e, eq-eqb n 0 z, t, s, w)
-
--- ---- `run` by its tests
-
-module _ (b : List ℕ) (n : ℕ) (m : Machine) where
-  pub run-refused : (ok : Bool) → ok ≡ false → record { stop = Refused 8; executed = 0; machine = m } ≡ run_call ok b n m
-  unfolding run_call
-  run-refused true e = absurd (true-false e)
-  run-refused false e = refl
-
-  pub run-halted : (ok : Bool) → ok ≡ true → m.state.control.halted ≡ true → record { stop = AlreadyHalted; executed = 0; machine = m } ≡ run_call ok b n m
-  unfolding run_call
-  run-halted true e h = sym (λ i. cond (h i) (record { stop = AlreadyHalted; executed = 0; machine = m }) (run b 0 n m))
-  run-halted false e h = absurd (true-false (sym e))
-
-  pub run_served : (ok : Bool) → ok ≡ true → m.state.control.halted ≡ false → run b 0 n m ≡ run_call ok b n m
-  unfolding run_call
-  run_served true e h = sym (λ i. cond (h i) (record { stop = AlreadyHalted; executed = 0; machine = m }) (run b 0 n m))
-  run_served false e h = absurd (true-false (sym e))
-
--- ---- the struct, rebuilt from its parts
-
-abbrev pub with_parts : Code → Parts → Code
-with_parts m q = record {
-  memory = q.memory;
-  registers = q.registers;
-  state = q.core.state;
-  counters = q.core.counters;
-  columns = q.columns;
-  numbers = q.numbers;
-  lengths = q.lengths;
-  trace_start = q.core.trace_start;
-  trace_len = q.core.trace_len;
-  touched = q.touched;
-  touched_len = q.core.touched_len;
-  image = m.image;
-  image_len = m.image_len;
-  history_len = m.history_len;
-}
+pub moves : {A : Type 0} {r : Result (Unit {0}) Refusal} {u : Unit {0}} {h : Bool} {a moving : A} (still : A) (m : Machine) {m' next : Machine} → r ≡ Ok u → h ≡ false → a ≡ moving → m' ≡ next → answered (Ok a) m' ≡ effect_if r h still moving m next
+moves still m e t s w = rw (e, t, s, w)
 
 -- ---- what the two calls report
 

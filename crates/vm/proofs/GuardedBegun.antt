@@ -1,5 +1,6 @@
 -- A guarded run of which so many instructions are known to be begun: what is left of it is the whole.
 -- Assumes nothing.
+use Rattle.std.specs.Prelude.{Option}
 use Prim.Native.Nat.{ℕ, zero, suc, ◌+◌, ◌-◌, ◌<◌}
 use native.Mathlib.Omega.{arith}
 use mathlib.Core.Path.{◌≡◌, ap, sym, ◌∙◌}
@@ -14,7 +15,7 @@ use Rattle.vm.specs.Guard.{Guarded, next_word, guarded_step, guarded_steps, guar
 use Rattle.vm.proofs.Guards.{guard_goes}
 
 -- an instruction is tested as with a budget of one, whatever budget is left
-one_any : (h b w j : Bool) (f : Fault) (z : Bool) → z ≡ false → guard_if h b z w j f ≡ guard_if h b false w j f
+one_any : (h b w j : Bool) (f : Option Fault) (z : Bool) → z ≡ false → guard_if h b z w j f ≡ guard_if h b false w j f
 one_any h b w j f z e = ap (λ (x : Bool). guard_if h b x w j f) e
 
 module _ (hid : ℕ → Bool) (b : List ℕ) where

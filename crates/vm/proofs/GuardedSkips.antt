@@ -1,5 +1,6 @@
 -- A guarded run whose first instructions are made without a trace ends as the run itself does, where 129 instructions follow.
 -- Assumes nothing.
+use Rattle.std.specs.Prelude.{Option}
 use Prim.Native.Nat.{ℕ, zero, suc, ◌+◌, ◌-◌, ◌≤◌, ◌<◌}
 use native.Mathlib.Omega.{arith}
 use mathlib.Core.Path.{◌≡◌, refl, ap, sym, subst, ◌∙◌}
@@ -83,7 +84,7 @@ abbrev pub Opens : (ℕ → Bool) → List ℕ → ℕ → ℕ → Light → Mar
 Opens hid b k j l q = (i : ℕ) → i < j → Open hid b (k + i) (light_steps i l) (marks_steps i l q)
 
 module _ (hid : ℕ → Bool) (b : List ℕ) where
-  passed : (h u w j : Bool) (f : Fault) → h ≡ false → u ≡ false → w ≡ false → j ≡ false → guard_if h u false w j f ≡ go
+  passed : (h u w j : Bool) (f : Option Fault) → h ≡ false → u ≡ false → w ≡ false → j ≡ false → guard_if h u false w j f ≡ go
   passed h u w j f p q r s = rw (p, q, r, s)
 
   lasting : (k j : ℕ) (l : Light) (q : Marks) → Opens hid b k j l q → Lasts j l

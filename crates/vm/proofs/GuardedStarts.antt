@@ -4,7 +4,7 @@ use Prim.Native.Nat.{ℕ, zero, suc, ◌≤◌, ◌-◌}
 use native.Mathlib.Omega.{arith}
 use mathlib.Core.Path.{◌≡◌, refl, ap, sym, ◌∙◌}
 use mathlib.Core.Bool.{Bool, true, false, cond}
-use mathlib.Core.List.{List, [], ◌++◌, append-nil}
+use mathlib.Core.List.{List, ◌++◌, append-nil}
 use borrow.Author.Tests.{ltb-false, eqb-true, ne_eqb}
 use lib.Dec.{eqb, ltb}
 use lib.ListN.{length, replicate, length-replicate}
@@ -17,7 +17,7 @@ use Rattle.vm.specs.Forms.{Fit, Sizes}
 use Rattle.vm.specs.Calls.{parts_of, view_of, is_machine, rest_of, restarted, image_words, image_size}
 use Rattle.marks.specs.Owners.{hidden_from}
 use Rattle.marks.specs.Total.{hidden_count, IsCount}
-use Rattle.vm.specs.Guard.{guarded_start, guarded_run, guarded_of, GuardedAnswer, guarded_answer_of, served_answer, refused_run, guarded_answer}
+use Rattle.vm.specs.Guard.{guarded_start, guarded_run, guarded_of, GuardedAnswer, served_answer, refused_answer, guarded_answer}
 use Rattle.guard.specs.Input.{Input, break_limit, budget_limit, guard_refusal, input_refusal}
 use Rattle.vm.proofs.Starts.{size_few, new_ok}
 use Rattle.vm.proofs.Fits.{fit}
@@ -56,7 +56,8 @@ pub served_input : (i : Input) → input_refusal i ≡ 0 → (length i.image ≤
 unfolding guard_refusal
 served_input i e = go (ltb memory_words (length i.image)) (eqb (length i.marks) memory_words) (ltb break_limit (length i.breaks)) (ltb budget_limit i.budget) refl refl refl e
   where
-    go : (a b c d : Bool) → ltb memory_words (length i.image) ≡ a → eqb (length i.marks) memory_words ≡ b → ltb budget_limit i.budget ≡ d → ◌≡◌ {A = ℕ} (cond a 1 (cond b (cond c 3 (cond d 4 0)) 2)) 0
+    go : (a b c d : Bool) → ltb memory_words (length i.image) ≡ a → eqb (length i.marks) memory_words ≡ b → ltb budget_limit i.budget ≡ d
+        → ◌≡◌ {A = ℕ} (cond a 1 (cond b (cond c 3 (cond d 4 0)) 2)) 0
         → (length i.image ≤ memory_words) × (length i.marks ≡ memory_words) × (i.budget ≤ budget_limit)
     go true b c d p q r z = absurd (omega (arith, z))
     go false false c d p q r z = absurd (omega (arith, z))
@@ -84,9 +85,9 @@ module _ (i : Input) {new : Code} {words : List ℕ} {size : ℕ} (machine : new
   pub load_ok : is_machine new ≡ true
   load_ok = ap is_machine machine ∙ new_ok words size 0 few
 
-  module _ {n : ℕ} (refusal : n ≡ input_refusal i) (served : n ≡ 0) where
+  module _ (served : input_refusal i ≡ 0) where
     has : (length i.image ≤ memory_words) × (length i.marks ≡ memory_words) × (i.budget ≤ budget_limit)
-    has = served_input i (sym refusal ∙ served)
+    has = served_input i served
 
     pub load_rest : rest_of new ≡ record { image = image_words i.image; length = length i.image; history = 0 }
     unfolding restarted
@@ -103,28 +104,19 @@ module _ (i : Input) {new : Code} {words : List ℕ} {size : ℕ} (machine : new
 module _ (i : Input) where
   pub answer_served : input_refusal i ≡ 0 → guarded_answer i ≡ served_answer i
   unfolding guarded_answer
-  answer_served e = ap (λ (n : ℕ). cond (eqb n 0) (served_answer i) (guarded_answer_of (refused_run n))) e
+  answer_served e = ap (λ (n : ℕ). cond (eqb n 0) (served_answer i) (refused_answer n)) e
 
-  pub answer-refused : {n : ℕ} → n ≡ input_refusal i → (n ≡ 0 → ⊥) → guarded_answer_of (refused_run n) ≡ guarded_answer i
+  pub answer-refused : {n : ℕ} → n ≡ input_refusal i → (n ≡ 0 → ⊥) → refused_answer n ≡ guarded_answer i
   unfolding guarded_answer
   answer-refused {n} e h =
-      sym (ap (λ (b : Bool). cond b (served_answer i) (guarded_answer_of (refused_run n))) (ne_eqb n 0 h))
-      ∙ ap (λ (k : ℕ). cond (eqb k 0) (served_answer i) (guarded_answer_of (refused_run k))) e
+      sym (ap (λ (b : Bool). cond b (served_answer i) (refused_answer n)) (ne_eqb n 0 h))
+      ∙ ap (λ (k : ℕ). cond (eqb k 0) (served_answer i) (refused_answer k)) e
 
 -- the number is that of the input's refusal, whatever is answered
 pub answer-refusal : (i : Input) → (guarded_answer i).refused ≡ input_refusal i
-unfolding refused_run
+unfolding refused_answer
 answer-refusal i = go (input_refusal i) refl
   where
     go : (n : ℕ) → input_refusal i ≡ n → (guarded_answer i).refused ≡ input_refusal i
     go zero e = ap (λ (a : GuardedAnswer). a.refused) (answer_served i e) ∙ sym e
     go (suc n) e = ap (λ (a : GuardedAnswer). a.refused) (sym (answer-refused i {n = suc n} (sym e) (λ z. omega (arith, z)))) ∙ sym e
-
--- a refused one is a machine too
-pub refused_ok : (n : ℕ) → is_machine (refused_run n).machine ≡ true
-unfolding refused_run
-refused_ok n = new_ok (image_words []) 0 0 (omega arith)
-
-pub refused-number : (n : ℕ) → (refused_run n).refused ≡ n
-unfolding refused_run
-refused-number n = refl

@@ -1,5 +1,6 @@
 -- A turn of the guarded loop: the guarded run by its verdict.
 -- Assumes nothing.
+use Rattle.std.specs.Prelude.{Option}
 use Prim.Native.Nat.{ℕ, ◌+◌, ◌-◌}
 use native.Mathlib.Omega.{arith}
 use mathlib.Core.Path.{◌≡◌, refl}
@@ -19,7 +20,7 @@ use Rattle.vm.proofs.Runs.{stops_at, goes_on_lem}
 -- ---- the guarded run by its verdict
 
 -- to go on is to have found the machine running and a budget left
-to_go : (h b z w j : Bool) (f : Fault) → guard_if h b z w j f ≡ go → (h ≡ false) × (z ≡ false)
+to_go : (h b z w j : Bool) (f : Option Fault) → guard_if h b z w j f ≡ go → (h ≡ false) × (z ≡ false)
 to_go false false false w j f e = (refl, refl)
 to_go false false true w j f e = absurd (let x : ◌≡◌ {A = ℕ} 0 1 = cc in omega arith)
 to_go false true z w j f e = absurd (let x : ◌≡◌ {A = ℕ} 0 1 = cc in omega arith)

@@ -2,32 +2,24 @@
 -- Assumes nothing.
 use Prim.Native.Nat.{ℕ, suc, zero, ◌≤◌, ◌<◌, ◌-◌, ◌+◌, ◌%◌}
 use native.Mathlib.Omega.{arith}
-use native.Mathlib.Numerals.{add-one}
 use native.Mathlib.Decide.{dec_lt}
 use mathlib.Core.Path.{◌≡◌, refl, ap, sym, ◌∙◌}
-use mathlib.Core.Bool.{true, false}
+use mathlib.Core.Bool.{true, false, cond}
 use mathlib.Core.List.{List, [], ◌∷◌, ◌++◌, append_assoc, append-nil, map, map-append}
 use borrow.Author.Tests.{lt-ltb, le-ltb}
-use lib.ListN.{length, get_or, take, drop, set, length-append, length-drop, drop_of_length-le, get_or-append, get_or-eq_default}
-use lib.Seq.{take-suc, take-suc-set, get_or-drop, get_or-take, get_or-append-add, drop-append-le, drop-drop}
-use Rattle.isa.specs.declared.text.Text.{Text}
+use lib.Dec.{ltb}
+use lib.ListN.{length, get_or, take, drop, set, replicate, length-append, length-drop, drop_of_length-le, get_or-append, get_or-eq_default}
+use lib.Seq.{get_or-drop, get_or-take, get_or-append-add, drop-append-le, drop-drop}
+use Rattle.isa.specs.Text.{Text, text}
 use Rattle.control.specs.Lawful.{lawful}
 use Rattle.control.proofs.Lawfuls.{lawful-small}
 use Rattle.tick.proofs.Lawfuls.{Next, tick_next}
 use Rattle.trace.specs.declared.records.TraceRecord.{TraceRecord}
 use Rattle.trace.specs.Trace.{pushed, slots, turn, text_at, record_at, live_trace, live_texts, take_last}
 use Rattle.vm.specs.Machine.{Machine, operands_of, next_text, next_done, micro_step}
-use Rattle.vm.specs.Instruction.{Steps, started, ticked, unless_zero, steps, step_instruction, tick_texts}
+use Rattle.vm.specs.Instruction.{Steps, started, ticked, unless_zero, steps, step_instruction, tick_texts, texts_from}
 use Rattle.trace.proofs.Rings.{length-slots, live-length}
 use Rattle.vm.proofs.TickTurns.{spent}
-
--- ---- a text is copied out of its slot
-
--- where the first i bytes are those from o on, and the next is copied, the first i + 1 are
-pub copy_next : (b x : List ℕ) (o i : ℕ) → i < length b → o + i < length x → take i b ≡ take i (drop o x) → take (i + 1) (set b i (get_or x (o + i) 0)) ≡ take (i + 1) (drop o x)
-copy_next b x o i h k e =
-    let d : i < length (drop o x) = simp length-drop (omega arith) in
-    rw (add-one, take-suc-set b i (get_or x (o + i) 0) h, take-suc (drop o x) i 0 d, get_or-drop o x i 0, e)
 
 -- ---- the newest of the ring
 
@@ -88,6 +80,36 @@ newest_at start len n i x l d h k b =
     let w : length t - n + i ≡ j = omega arith in
     let m : (s + j) % 512 ≡ (s + len - n + i) % 512 = ap (λ (r : ℕ). r % 512) (omega arith) in
     sym (get_or-drop (length t - n) t i d ∙ ap (λ (r : ℕ). get_or t r d) w ∙ get_or-take len (turn q s) j d (omega arith) ∙ get_d_turn q s j d (omega arith) (omega arith) (length-slots 512 (text_at x l)) ∙ get_d_slots 512 ((s + j) % 512) (text_at x l) d (omega arith) ∙ ap (text_at x l) m)
+
+-- ---- a loop that puts texts in their places
+
+-- the first n of them are there
+abbrev pub placed : ℕ → List Text → List Text
+placed n t = map (λ (j : ℕ). cond (ltb j n) (get_or t j (text [])) (text [])) (0 ∷ 1 ∷ 2 ∷ 3 ∷ 4 ∷ 5 ∷ 6 ∷ [])
+
+pub placed_none : (t : List Text) {x : Text} → x ≡ text [] → replicate 7 x ≡ placed 0 t
+placed_none t e = rw e
+
+pub placed_next : (i : ℕ) (t : List Text) {x : Text} {now : List Text} → i < 7 → x ≡ get_or t i (text []) → now ≡ placed i t → set now i x ≡ placed (i + 1) t
+placed_next zero t h e n = rw (n, e)
+placed_next (suc zero) t h e n = rw (n, e)
+placed_next (suc (suc zero)) t h e n = rw (n, e)
+placed_next (suc (suc (suc zero))) t h e n = rw (n, e)
+placed_next (suc (suc (suc (suc zero)))) t h e n = rw (n, e)
+placed_next (suc (suc (suc (suc (suc zero))))) t h e n = rw (n, e)
+placed_next (suc (suc (suc (suc (suc (suc zero)))))) t h e n = rw (n, e)
+placed_next (suc (suc (suc (suc (suc (suc (suc i))))))) t h e n = absurd (omega arith)
+
+-- past the last there is an empty text
+pub placed_all : (t : List Text) → placed (length t) t ≡ (texts_from t).texts
+placed_all t = ap (λ (f : ℕ → Text). map f (0 ∷ 1 ∷ 2 ∷ 3 ∷ 4 ∷ 5 ∷ 6 ∷ [])) (λ i j. each j i)
+  where
+    each : (j : ℕ) → cond (ltb j (length t)) (get_or t j (text [])) (text []) ≡ get_or t j (text [])
+    each j = go (dec_lt j (length t))
+      where
+        go : Dec (j < length t) → cond (ltb j (length t)) (get_or t j (text [])) (text []) ≡ get_or t j (text [])
+        go (yes y) = rw (lt-ltb _ _ y)
+        go (no n) = let k : length t ≤ j = omega arith in rw (le-ltb _ _ k) (sym (get_or-eq_default t (text []) k))
 
 -- ---- texts of records
 

@@ -1,5 +1,8 @@
 -- The guarded machine is the plain one (01, section 5): after as many instructions whatever the marks, where it stops for a hidden value; else the one that `run` leaves.
 -- Assumes nothing.
+use Rattle.std.specs.Prelude.{Option, Some, None, Result, Ok, Err}
+use Rattle.encoding.specs.declared.refusal.Refusal.TheVariants.{FullCounter}
+use Rattle.encoding.specs.declared.refusal.Refusal.{Refusal}
 use Prim.Native.Nat.{ℕ, zero, suc, ◌+◌, ◌*◌, ◌-◌, ◌≤◌, ◌<◌, ◌^◌}
 use native.Mathlib.Omega.{arith}
 use native.Mathlib.Nat.{mod-le}
@@ -10,9 +13,9 @@ use borrow.Author.Tests.{le-ltb, eqb-false}
 use lib.Dec.{eqb}
 use lib.ListN.{get_or}
 use Rattle.control.specs.declared.control.BusTransfer.{BusTransfer}
-use Rattle.control.specs.declared.control.BusTransfer.TheVariants.{Idle, Read, Write}
+use Rattle.control.specs.declared.control.BusTransfer.TheVariants.{Read, Write}
 use Rattle.control.specs.declared.control.Fault.{Fault}
-use Rattle.control.specs.declared.control.Fault.TheVariants.{Healthy, UnknownInstruction, StepBudgetExhausted}
+use Rattle.control.specs.declared.control.Fault.TheVariants.{UnknownInstruction, StepBudgetExhausted}
 use Rattle.control.specs.declared.control.State.{State}
 use Rattle.control.specs.declared.counters.Counters.{Counters}
 use Rattle.control.specs.Count.{over_counted, one_more, count_tick}
@@ -20,7 +23,7 @@ use Rattle.control.proofs.Lawfuls.{true-false}
 use Rattle.guard.specs.declared.stops.GuardedStop.{GuardedStop}
 use Rattle.guard.specs.declared.stops.GuardedStop.TheVariants.{Halted, Breakpoint, Fault as Faulted, Budget, HiddenWord, HiddenJump}
 use Rattle.guard.specs.declared.stops.RunStop.{RunStop}
-use Rattle.guard.specs.declared.stops.RunStop.TheVariants.{Breakpoint as RunBreakpoint, Budget as RunBudget, Refused}
+use Rattle.guard.specs.declared.stops.RunStop.TheVariants.{Breakpoint as RunBreakpoint, Budget as RunBudget}
 use Rattle.vm.specs.Machine.{Machine, micro_step}
 use Rattle.vm.specs.Instruction.{Steps, started, ticked, unless_zero, steps, step_instruction}
 use Rattle.vm.specs.Run.{verdict, closed, run_number, RunEnd, run}
@@ -114,29 +117,29 @@ plain-hidden hid b n g h = plain_end hid b n g ∙ left_open (guarded_run hid b 
 -- ---- beside `run`
 
 -- two stops with one number, neither a refusal: they leave the same machine
-record Alike (c : GuardedStop) (d : RunStop) : Type 0 where
+record Alike (c : GuardedStop) (d : Result RunStop Refusal) : Type 0 where
   number : stop_number c ≡ run_number d
   unrefused : refusal_in (run_code d) ≡ 0
 
 -- both go on; both stop, and leave the machine alike; or the guarded run stops for something hidden
-data Turn (v : Verdict GuardedStop) (u : Verdict RunStop) : Type 0 where
+data Turn (v : Verdict GuardedStop) (u : Verdict (Result RunStop Refusal)) : Type 0 where
   on : v ≡ go → u ≡ go → Turn v u
-  off : (c : GuardedStop) (d : RunStop) → v ≡ stop c → u ≡ stop d → Alike c d → Turn v u
+  off : (c : GuardedStop) (d : Result RunStop Refusal) → v ≡ stop c → u ≡ stop d → Alike c d → Turn v u
   hidden : (c : GuardedStop) → v ≡ stop c → hides c ≡ true → Turn v u
 
-halts : (f : Fault) → Alike (halted_stop f) (halt_stop f)
-halts Healthy = record { number = refl; unrefused = refl }
-halts (UnknownInstruction w a) = record { number = refl; unrefused = refl }
-halts (StepBudgetExhausted w a) = record { number = refl; unrefused = refl }
+halts : (f : Option Fault) → Alike (halted_stop f) (Ok (halt_stop f))
+halts None = record { number = refl; unrefused = refl }
+halts (Some (UnknownInstruction w a)) = record { number = refl; unrefused = refl }
+halts (Some (StepBudgetExhausted w a)) = record { number = refl; unrefused = refl }
 
 -- by the tests; no counter is near its end, or it is not looked at
 beside : (h b z w j o : Bool) (s : State) → (z ≡ false → o ≡ false) → Turn (guard_if h b z w j s.fault) (verdict_if h b z o s)
-beside true b z w j o s q = off (halted_stop s.fault) (halt_stop s.fault) refl refl (halts s.fault)
-beside false true z w j o s q = off Breakpoint (RunBreakpoint s.control.pc) refl refl (record { number = refl; unrefused = refl })
-beside false false true w j o s q = off Budget RunBudget refl refl (record { number = refl; unrefused = refl })
+beside true b z w j o s q = off (halted_stop s.fault) (Ok (halt_stop s.fault)) refl refl (halts s.fault)
+beside false true z w j o s q = off Breakpoint (Ok (RunBreakpoint s.control.pc)) refl refl (record { number = refl; unrefused = refl })
+beside false false true w j o s q = off Budget (Ok RunBudget) refl refl (record { number = refl; unrefused = refl })
 beside false false false true j o s q = hidden HiddenWord refl refl
 beside false false false false true o s q = hidden HiddenJump refl refl
-beside false false false false false o s q = on refl (ap (λ (x : Bool). cond x (stop (Refused 9)) go) (q refl))
+beside false false false false false o s q = on refl (ap (λ (x : Bool). cond x (stop (Err FullCounter)) go) (q refl))
 
 -- two ends that show the same: the stop's number, which is no refusal, the machine, and how many instructions were begun
 pub record Same (e : GuardedEnd) (r : RunEnd) : Type 0 where
@@ -158,7 +161,7 @@ module _ (hid : ℕ → Bool) (b : List ℕ) where
       let some : eqb n 0 ≡ false → 0 < n = λ e. omega (arith, eqb-false n 0 e) in
       beside m.state.control.halted (reached b k pc) (eqb n 0) (hid (get_or g.marks.memory pc 0)) (hidden_jump hid (next_word m) g.marks.registers) (over_counted m.counters) m.state (λ e. u 0 (some e))
 
-  ended : (k n : ℕ) (g : Guarded) (c : GuardedStop) (d : RunStop) → guard hid b k n g ≡ stop c → verdict b k n g.machine ≡ stop d → Alike c d → Same (guarded_run hid b k n g) (run b k n g.machine)
+  ended : (k n : ℕ) (g : Guarded) (c : GuardedStop) (d : Result RunStop Refusal) → guard hid b k n g ≡ stop c → verdict b k n g.machine ≡ stop d → Alike c d → Same (guarded_run hid b k n g) (run b k n g.machine)
   ended k n g c d p q r =
       let x = guard_stops hid b k n g c p in
       let y = run_stops b k n g.machine d q in
@@ -207,14 +210,14 @@ rises : {a n : ℕ} → a ≤ n → one_more a ≤ n + 1
 rises {a} h = omega (arith, mod-le (a + 1) (2 ^ 64))
 
 -- a tick adds at most one to each
-low_tick : (n : ℕ) (bus : BusTransfer) (completed : Bool) (k : Counters) → Low n k → Low (n + 1) (count_tick bus completed k)
+low_tick : (n : ℕ) (bus : Option BusTransfer) (completed : Bool) (k : Counters) → Low n k → Low (n + 1) (count_tick bus completed k)
 unfolding count_tick
-low_tick n Idle true k l = record { instructions = rises l.instructions; micro = rises l.micro; reads = omega (arith, l.reads); writes = omega (arith, l.writes) }
-low_tick n Idle false k l = record { instructions = omega (arith, l.instructions); micro = rises l.micro; reads = omega (arith, l.reads); writes = omega (arith, l.writes) }
-low_tick n (Read a v) true k l = record { instructions = rises l.instructions; micro = rises l.micro; reads = rises l.reads; writes = omega (arith, l.writes) }
-low_tick n (Read a v) false k l = record { instructions = omega (arith, l.instructions); micro = rises l.micro; reads = rises l.reads; writes = omega (arith, l.writes) }
-low_tick n (Write a v) true k l = record { instructions = rises l.instructions; micro = rises l.micro; reads = omega (arith, l.reads); writes = rises l.writes }
-low_tick n (Write a v) false k l = record { instructions = omega (arith, l.instructions); micro = rises l.micro; reads = omega (arith, l.reads); writes = rises l.writes }
+low_tick n None true k l = record { instructions = rises l.instructions; micro = rises l.micro; reads = omega (arith, l.reads); writes = omega (arith, l.writes) }
+low_tick n None false k l = record { instructions = omega (arith, l.instructions); micro = rises l.micro; reads = omega (arith, l.reads); writes = omega (arith, l.writes) }
+low_tick n (Some (Read a v)) true k l = record { instructions = rises l.instructions; micro = rises l.micro; reads = rises l.reads; writes = omega (arith, l.writes) }
+low_tick n (Some (Read a v)) false k l = record { instructions = omega (arith, l.instructions); micro = rises l.micro; reads = rises l.reads; writes = omega (arith, l.writes) }
+low_tick n (Some (Write a v)) true k l = record { instructions = rises l.instructions; micro = rises l.micro; reads = omega (arith, l.reads); writes = rises l.writes }
+low_tick n (Some (Write a v)) false k l = record { instructions = omega (arith, l.instructions); micro = rises l.micro; reads = omega (arith, l.reads); writes = rises l.writes }
 
 below : {n p : ℕ} {k : Counters} → n ≤ p → Low n k → Low p k
 below h l = record { instructions = omega (arith, l.instructions); micro = omega (arith, l.micro); reads = omega (arith, l.reads); writes = omega (arith, l.writes) }

@@ -2,26 +2,21 @@
 -- Assumes nothing.
 use Prim.Native.Nat.{ℕ, ◌≤◌}
 use native.Mathlib.Omega.{arith}
-use mathlib.Core.Path.{◌≡◌, ap}
-use mathlib.Core.Bool.{Bool, true, cond}
+use mathlib.Core.Path.{◌≡◌}
+use mathlib.Core.Bool.{true}
 use mathlib.Core.List.{List, []}
 use borrow.Author.Tests.{leb-true}
-use lib.Dec.{eqb, leb}
+use lib.Dec.{leb}
 use lib.ListN.{length}
 use Rattle.isa.specs.Sizes.{memory_words}
 use Rattle.control.specs.Lawful.{lawful}
 use Rattle.vm.specs.declared.machine.Machine.{Machine as Code}
-use Rattle.vm.specs.Refusal.{parts_ok, refusal}
-use Rattle.vm.specs.Calls.{is_machine, refusal_of, restarted, image_words, serve, loaded, reset, clear, clear_history}
+use Rattle.vm.specs.Refusal.{parts_ok}
+use Rattle.vm.specs.Calls.{is_machine, restarted, image_words, loaded, reset, clear, clear_history}
 use Rattle.isa.proofs.Truths.{both}
 use Rattle.vm.specs.History.{saved, undone}
 use Rattle.vm.proofs.Starts.{size_few, new_ok}
 use Rattle.vm.proofs.Histories.{saved-lasts, undone-lasts}
-
--- what a call answers where the machine is one
-serve_new : (m new : Code) → is_machine m ≡ true → (serve (refusal_of m) new m).machine ≡ new
-unfolding serve refusal
-serve_new m new e = ap (λ (b : Bool). cond (eqb (cond b 0 8) 0) new m) e
 
 size : (m : Code) → is_machine m ≡ true → m.image_len ≤ memory_words
 unfolding parts_ok
@@ -29,19 +24,19 @@ size m e = leb-true m.image_len memory_words (both (leb m.image_len memory_words
 
 pub loaded-lasts : (image : List ℕ) (m : Code) → is_machine m ≡ true → is_machine (loaded image m).machine ≡ true
 unfolding loaded
-loaded-lasts image m e = rw (serve_new m _ e) (new_ok (image_words image) _ m.history_len (size_few (length image)))
+loaded-lasts image m e = rw e (new_ok (image_words image) _ m.history_len (size_few (length image)))
 
 pub reset-lasts : (m : Code) → is_machine m ≡ true → is_machine (reset m).machine ≡ true
 unfolding reset
-reset-lasts m e = rw (serve_new m _ e) (new_ok m.image m.image_len m.history_len (size m e))
+reset-lasts m e = rw e (new_ok m.image m.image_len m.history_len (size m e))
 
 pub clear-lasts : (m : Code) → is_machine m ≡ true → is_machine (clear m).machine ≡ true
 unfolding clear
-clear-lasts m e = rw (serve_new m _ e) (new_ok (image_words []) 0 0 (omega arith))
+clear-lasts m e = rw e (new_ok (image_words []) 0 0 (omega arith))
 
 pub clear-history-lasts : (m : Code) → is_machine m ≡ true → is_machine (clear_history m).machine ≡ true
 unfolding clear_history
-clear-history-lasts m e = rw (serve_new m _ e) e
+clear-history-lasts m e = rw e e
 
 -- by which calls a machine is reached, with any store; the image's array has 256 words, as its type tells; `micro_step`, `step_instruction`, `run`, `direct_instruction` and `direct_run` promise `lasting`, and the readings leave the machine as it is
 pub data Reached : Code → Type 0 where

@@ -1,5 +1,7 @@
 -- A turn of the loop over instructions: `run` by its verdict.
 -- Assumes nothing.
+use Rattle.std.specs.Prelude.{Result, Ok}
+use Rattle.encoding.specs.declared.refusal.Refusal.{Refusal}
 use Prim.Native.Nat.{ℕ, zero, suc, ◌+◌, ◌-◌}
 use native.Mathlib.Omega.{arith}
 use mathlib.Core.Path.{◌≡◌, refl, ap, ◌∙◌}
@@ -44,13 +46,13 @@ to_go false true z f s e = absurd (let x : ◌≡◌ {A = ℕ} 0 1 = cc in omega
 to_go true b z f s e = absurd (let x : ◌≡◌ {A = ℕ} 0 1 = cc in omega arith)
 
 module _ (b : List ℕ) (k n : ℕ) (m : Machine) where
-  pub run_stops : (c : RunStop) → verdict b k n m ≡ stop c → run b k n m ≡ run_end k m c
+  pub run_stops : (c : Result RunStop Refusal) → verdict b k n m ≡ stop c → run b k n m ≡ run_end k m c
   unfolding run
-  run_stops c e = stops_at (verdict b) run_end Budget (λ m. (step_instruction m).machine) (run b) (λ k m. refl) (λ k n m. refl) k n m c e
+  run_stops c e = stops_at (verdict b) run_end (Ok Budget) (λ m. (step_instruction m).machine) (run b) (λ k m. refl) (λ k n m. refl) k n m c e
 
   pub run_goes : verdict b k n m ≡ go → (n ≡ 0 → ⊥) → run b k n m ≡ run b (k + 1) (n - 1) (step_instruction m).machine
   unfolding run
-  run_goes e z = goes_on_lem (verdict b) run_end Budget (λ m. (step_instruction m).machine) (run b) (λ k m. refl) (λ k n m. refl) k n m e z
+  run_goes e z = goes_on_lem (verdict b) run_end (Ok Budget) (λ m. (step_instruction m).machine) (run b) (λ k m. refl) (λ k n m. refl) k n m e z
 
   pub running : verdict b k n m ≡ go → (m.state.control.halted ≡ false) × (n ≡ 0 → ⊥)
   running e = let t = to_go m.state.control.halted (reached b k m.state.control.pc) (eqb n 0) (over_counted m.counters) m.state e in (t.0, eqb-false n 0 t.1)

@@ -1,5 +1,7 @@
 -- One tick: the register that it writes, the length of its text, and that what the calls of one tick say is `micro_step`.
 -- Assumes nothing.
+use Rattle.std.specs.Prelude.{None, Option, Some}
+use Rattle.isa.specs.declared.opcode.Opcode.{Opcode}
 use Prim.Native.Nat.{ℕ, zero, suc, ◌+◌, ◌≤◌, ◌<◌}
 use native.Mathlib.Omega.{arith}
 use mathlib.Core.Path.{◌≡◌, ◌∙◌}
@@ -8,11 +10,9 @@ use mathlib.Core.List.{List}
 use lib.Dec.{leb, lit≤}
 use lib.ListN.{length, length-map}
 use Rattle.isa.specs.declared.opcode.Opcode.TheVariants.{LoadImmediate, LoadRegister, LoadMemory, StoreMemory, Add, Negate, ShiftRight, ShiftLeft, And, Or, Xor, Jump, Halt}
-use Rattle.isa.specs.declared.opcode.Decoded.{Decoded}
-use Rattle.isa.specs.declared.opcode.Decoded.TheVariants.{Known, Unknown}
-use Rattle.isa.specs.declared.text.Text.{Text}
+use Rattle.isa.specs.Text.{Text}
 use Rattle.isa.specs.Sizes.{memory_words}
-use Rattle.isa.specs.Text.{ascii, text}
+use Rattle.isa.specs.Text.{fixed_text, ascii, text}
 use Rattle.isa.proofs.Texts.{length-padded}
 use Rattle.isa.specs.Word.{decode_word}
 use Rattle.isa.specs.Format.{hex4, fill, fill_byte}
@@ -36,42 +36,42 @@ use Rattle.vm.specs.Machine.{Machine, operands_of, next_text_on, next_text, afte
 
 -- ---- a register that a tick writes is one of sixteen
 
-execute_named : (d : Decoded) (n : ℕ) (s : State) (o : Operands) → register_of (execute_tick d n s o).write < 16
+execute_named : (d : Option Opcode) (n : ℕ) (s : State) (o : Operands) → register_of (execute_tick d n s o).write < 16
 unfolding execute_tick
-execute_named (Known LoadImmediate) n s o = omega arith
-execute_named (Known LoadRegister) n s o = omega arith
-execute_named (Known LoadMemory) zero s o = omega arith
-execute_named (Known LoadMemory) (suc zero) s o = omega arith
-execute_named (Known LoadMemory) (suc (suc n)) s o = omega arith
-execute_named (Known StoreMemory) zero s o = omega arith
-execute_named (Known StoreMemory) (suc zero) s o = omega arith
-execute_named (Known StoreMemory) (suc (suc n)) s o = omega arith
-execute_named (Known Add) n s o = omega arith
-execute_named (Known Negate) n s o = omega arith
-execute_named (Known ShiftRight) n s o = omega arith
-execute_named (Known ShiftLeft) n s o = omega arith
-execute_named (Known And) n s o = omega arith
-execute_named (Known Or) n s o = omega arith
-execute_named (Known Xor) n s o = omega arith
-execute_named (Known Jump) n s o = omega arith
-execute_named (Known Halt) n s o = omega arith
-execute_named Unknown n s o = omega arith
+execute_named (Some LoadImmediate) n s o = omega arith
+execute_named (Some LoadRegister) n s o = omega arith
+execute_named (Some LoadMemory) zero s o = omega arith
+execute_named (Some LoadMemory) (suc zero) s o = omega arith
+execute_named (Some LoadMemory) (suc (suc n)) s o = omega arith
+execute_named (Some StoreMemory) zero s o = omega arith
+execute_named (Some StoreMemory) (suc zero) s o = omega arith
+execute_named (Some StoreMemory) (suc (suc n)) s o = omega arith
+execute_named (Some Add) n s o = omega arith
+execute_named (Some Negate) n s o = omega arith
+execute_named (Some ShiftRight) n s o = omega arith
+execute_named (Some ShiftLeft) n s o = omega arith
+execute_named (Some And) n s o = omega arith
+execute_named (Some Or) n s o = omega arith
+execute_named (Some Xor) n s o = omega arith
+execute_named (Some Jump) n s o = omega arith
+execute_named (Some Halt) n s o = omega arith
+execute_named None n s o = omega arith
 
-decode_named : (d : Decoded) (s : State) → register_of (decode_as d s).write < 16
-decode_named (Known LoadImmediate) s = omega arith
-decode_named (Known LoadRegister) s = omega arith
-decode_named (Known LoadMemory) s = omega arith
-decode_named (Known StoreMemory) s = omega arith
-decode_named (Known Add) s = omega arith
-decode_named (Known Negate) s = omega arith
-decode_named (Known ShiftRight) s = omega arith
-decode_named (Known ShiftLeft) s = omega arith
-decode_named (Known And) s = omega arith
-decode_named (Known Or) s = omega arith
-decode_named (Known Xor) s = omega arith
-decode_named (Known Jump) s = omega arith
-decode_named (Known Halt) s = omega arith
-decode_named Unknown s = omega arith
+decode_named : (d : Option Opcode) (s : State) → register_of (decode_as d s).write < 16
+decode_named (Some LoadImmediate) s = omega arith
+decode_named (Some LoadRegister) s = omega arith
+decode_named (Some LoadMemory) s = omega arith
+decode_named (Some StoreMemory) s = omega arith
+decode_named (Some Add) s = omega arith
+decode_named (Some Negate) s = omega arith
+decode_named (Some ShiftRight) s = omega arith
+decode_named (Some ShiftLeft) s = omega arith
+decode_named (Some And) s = omega arith
+decode_named (Some Or) s = omega arith
+decode_named (Some Xor) s = omega arith
+decode_named (Some Jump) s = omega arith
+decode_named (Some Halt) s = omega arith
+decode_named None s = omega arith
 
 onward-named : (n : ℕ) (q : Tick) → register_of q.write < 16 → register_of (onward n q).write < 16
 onward-named n q h = go (leb q.state.control.execute_ticks (n + 1))
@@ -91,37 +91,37 @@ named (suc (suc (suc (suc n)))) s o = onward-named n (execute_tick (decode_word 
 -- ---- the address of a bus write is MAR
 
 module _ (s : State) (o : Operands) (byte : s.control.mar < memory_words) where
-  execute_sends : (d : Decoded) (n : ℕ) → Addressed (execute_tick d n s o).bus
+  execute_sends : (d : Option Opcode) (n : ℕ) → Addressed (execute_tick d n s o).bus
   unfolding execute_tick
-  execute_sends (Known LoadImmediate) n = tt
-  execute_sends (Known LoadRegister) n = tt
-  execute_sends (Known LoadMemory) zero = tt
-  execute_sends (Known LoadMemory) (suc zero) = tt
-  execute_sends (Known LoadMemory) (suc (suc n)) = tt
-  execute_sends (Known StoreMemory) zero = tt
-  execute_sends (Known StoreMemory) (suc zero) = tt
-  execute_sends (Known StoreMemory) (suc (suc n)) = byte
-  execute_sends (Known Add) n = tt
-  execute_sends (Known Negate) n = tt
-  execute_sends (Known ShiftRight) n = tt
-  execute_sends (Known ShiftLeft) n = tt
-  execute_sends (Known And) n = tt
-  execute_sends (Known Or) n = tt
-  execute_sends (Known Xor) n = tt
-  execute_sends (Known Jump) n = tt
-  execute_sends (Known Halt) n = tt
-  execute_sends Unknown n = tt
+  execute_sends (Some LoadImmediate) n = tt
+  execute_sends (Some LoadRegister) n = tt
+  execute_sends (Some LoadMemory) zero = tt
+  execute_sends (Some LoadMemory) (suc zero) = tt
+  execute_sends (Some LoadMemory) (suc (suc n)) = tt
+  execute_sends (Some StoreMemory) zero = tt
+  execute_sends (Some StoreMemory) (suc zero) = tt
+  execute_sends (Some StoreMemory) (suc (suc n)) = byte
+  execute_sends (Some Add) n = tt
+  execute_sends (Some Negate) n = tt
+  execute_sends (Some ShiftRight) n = tt
+  execute_sends (Some ShiftLeft) n = tt
+  execute_sends (Some And) n = tt
+  execute_sends (Some Or) n = tt
+  execute_sends (Some Xor) n = tt
+  execute_sends (Some Jump) n = tt
+  execute_sends (Some Halt) n = tt
+  execute_sends None n = tt
 
-  decode_sends : (d : Decoded) → Addressed (decode_as d s).bus
-  decode_sends (Known c) = go (is_halt c)
+  decode_sends : (d : Option Opcode) → Addressed (decode_as d s).bus
+  decode_sends (Some c) = go (is_halt c)
     where
       at : Control
-      at = next_pc (execute_ticks_of (Known c)) s.control
+      at = next_pc (execute_ticks_of (Some c)) s.control
 
       go : (b : Bool) → Addressed (cond b (halting_tick s at) (plain (with_control (to_tick 4 at) s))).bus
       go true = tt
       go false = tt
-  decode_sends Unknown = tt
+  decode_sends None = tt
 
   onward_sends : (n : ℕ) (q : Tick) → Addressed q.bus → Addressed (onward n q).bus
   onward_sends n q h = go (leb q.state.control.execute_ticks (n + 1))
@@ -143,27 +143,27 @@ module _ (s : State) (o : Operands) (byte : s.control.mar < memory_words) where
 
 -- ---- no text of a tick is over 32 bytes
 
-execute_fits : (d : Decoded) (n : ℕ) (taken : Bool) → length (ascii (execute_text d n taken)) ≤ 32
+execute_fits : (d : Option Opcode) (n : ℕ) (taken : Bool) → length (ascii (execute_text d n taken)) ≤ 32
 unfolding execute_text load_text store_text
-execute_fits (Known LoadImmediate) n taken = lit≤ tt
-execute_fits (Known LoadRegister) n taken = lit≤ tt
-execute_fits (Known LoadMemory) zero taken = lit≤ tt
-execute_fits (Known LoadMemory) (suc zero) taken = lit≤ tt
-execute_fits (Known LoadMemory) (suc (suc n)) taken = lit≤ tt
-execute_fits (Known StoreMemory) zero taken = lit≤ tt
-execute_fits (Known StoreMemory) (suc zero) taken = lit≤ tt
-execute_fits (Known StoreMemory) (suc (suc n)) taken = lit≤ tt
-execute_fits (Known Add) n taken = lit≤ tt
-execute_fits (Known Negate) n taken = lit≤ tt
-execute_fits (Known ShiftRight) n taken = lit≤ tt
-execute_fits (Known ShiftLeft) n taken = lit≤ tt
-execute_fits (Known And) n taken = lit≤ tt
-execute_fits (Known Or) n taken = lit≤ tt
-execute_fits (Known Xor) n taken = lit≤ tt
-execute_fits (Known Jump) n true = lit≤ tt
-execute_fits (Known Jump) n false = lit≤ tt
-execute_fits (Known Halt) n taken = lit≤ tt
-execute_fits Unknown n taken = lit≤ tt
+execute_fits (Some LoadImmediate) n taken = lit≤ tt
+execute_fits (Some LoadRegister) n taken = lit≤ tt
+execute_fits (Some LoadMemory) zero taken = lit≤ tt
+execute_fits (Some LoadMemory) (suc zero) taken = lit≤ tt
+execute_fits (Some LoadMemory) (suc (suc n)) taken = lit≤ tt
+execute_fits (Some StoreMemory) zero taken = lit≤ tt
+execute_fits (Some StoreMemory) (suc zero) taken = lit≤ tt
+execute_fits (Some StoreMemory) (suc (suc n)) taken = lit≤ tt
+execute_fits (Some Add) n taken = lit≤ tt
+execute_fits (Some Negate) n taken = lit≤ tt
+execute_fits (Some ShiftRight) n taken = lit≤ tt
+execute_fits (Some ShiftLeft) n taken = lit≤ tt
+execute_fits (Some And) n taken = lit≤ tt
+execute_fits (Some Or) n taken = lit≤ tt
+execute_fits (Some Xor) n taken = lit≤ tt
+execute_fits (Some Jump) n true = lit≤ tt
+execute_fits (Some Jump) n false = lit≤ tt
+execute_fits (Some Halt) n taken = lit≤ tt
+execute_fits None n taken = lit≤ tt
 
 template-fits : (t : ℕ) (taken : Bool) (w : ℕ) → length (ascii (tick_template t taken w)) ≤ 32
 unfolding tick_template fetch_text
@@ -174,7 +174,7 @@ template-fits (suc (suc (suc zero))) taken w = lit≤ tt
 template-fits (suc (suc (suc (suc n)))) taken w = execute_fits (decode_word w) n taken
 
 text-fits : (t : ℕ) (taken : Bool) (w : ℕ) → (text (tick_text t taken w)).len ≤ 32
-unfolding text tick_text fill
+unfolding fixed_text tick_text fill
 text-fits t taken w = rw (length-map (ascii (tick_template t taken w)) (fill_byte (hex4 w))) (template-fits t taken w)
 
 pub short-text : (t : ℕ) (taken : Bool) (w : ℕ) {x : Text} → x ≡ text (tick_text t taken w) → x.len ≤ 32
@@ -182,7 +182,7 @@ short-text t taken w e = rw e (text-fits t taken w)
 
 -- so its field is 32 bytes long
 pub text_field : (t : ℕ) (taken : Bool) (w : ℕ) {x : Text} → x ≡ text (tick_text t taken w) → length x.bytes ≡ 32
-unfolding text
+unfolding fixed_text
 text_field t taken w e = rw e (length-padded 32 (tick_text t taken w) (text-fits t taken w))
 
 -- ---- the calls of one tick

@@ -1,19 +1,16 @@
 -- The machine as the code's struct has it, its refusals, and the calls that start a machine anew (01, sections 1, 7 and 10; vm.rs): what each answers, and the
 -- machine that it leaves.
 -- Assumes nothing.
-use Rattle.std.specs.Prelude.{ℕ, ◌-◌, min, Bool, cond, List, [], ◌++◌, eqb, length, take, replicate}
+use Rattle.std.specs.Prelude.{ℕ, ◌-◌, min, Bool, List, [], ◌++◌, length, take, replicate, Result, Ok, Err, None}
+use Rattle.encoding.specs.declared.refusal.Refusal.{Refusal}
 use Rattle.isa.specs.Sizes.{memory_words, register_count}
-use Rattle.control.specs.declared.control.Fault.TheVariants.{Healthy}
-use Rattle.control.specs.declared.control.BusTransfer.TheVariants.{Idle}
-use Rattle.control.specs.declared.control.AluRecord.TheVariants.{Unused}
 use Rattle.control.specs.Control.{fresh_control}
 use Rattle.vm.specs.declared.machine.Machine.{Machine as Code}
 use Rattle.vm.specs.declared.parts.Core.{Core}
-use Rattle.vm.specs.declared.machine.Served.{Served}
 use Rattle.trace.specs.Trace.{columns_length, trace_limit}
 use Rattle.vm.specs.Machine.{Machine}
 use Rattle.vm.specs.View.{Parts, parts, view}
-use Rattle.vm.specs.Refusal.{parts_ok, refusal, step_refusal}
+use Rattle.vm.specs.Refusal.{parts_ok, served, step_refusal}
 
 -- ---- the struct and the machine that it holds
 
@@ -24,6 +21,25 @@ core_of m = record {
   touched_len = m.touched_len;
   trace_start = m.trace_start;
   trace_len = m.trace_len;
+}
+
+-- with another small part
+abbrev pub with_core : Core → Code → Code
+with_core c m = record {
+  memory = m.memory;
+  registers = m.registers;
+  state = c.state;
+  counters = c.counters;
+  columns = m.columns;
+  numbers = m.numbers;
+  lengths = m.lengths;
+  trace_start = c.trace_start;
+  trace_len = c.trace_len;
+  touched = m.touched;
+  touched_len = c.touched_len;
+  image = m.image;
+  image_len = m.image_len;
+  history_len = m.history_len;
 }
 
 abbrev pub parts_of : Code → Parts
@@ -46,11 +62,22 @@ rest_of m = record { image = m.image; length = m.image_len; history = m.history_
 abbrev pub is_machine : Code → Bool
 is_machine m = parts_ok (core_of m) m.image_len m.touched m.lengths
 
-abbrev pub refusal_of : Code → ℕ
-refusal_of m = refusal (core_of m) m.image_len m.touched m.lengths
-
-abbrev pub step_refusal_of : Code → ℕ
+abbrev pub step_refusal_of : Code → Result (Unit {0}) Refusal
 step_refusal_of m = step_refusal (core_of m) m.image_len m.touched m.lengths
+
+-- ---- what a call answers, and the machine that it leaves
+
+pub record Effect (A M : Type 0) : Type 0 where
+  pub answer : Result A Refusal
+  pub machine : M
+
+abbrev pub answered : {A M : Type 0} → Result A Refusal → M → Effect A M
+answered a m = record { answer = a; machine = m }
+
+-- of a call that answers nothing more: the new machine where it is served, else the old one
+abbrev pub serve : Result (Unit {0}) Refusal → Code → Code → Effect (Unit {0}) Code
+serve (Ok u) new old = answered (Ok tt) new
+serve (Err r) new old = answered (Err r) old
 
 -- ---- the calls that start a machine anew (section 7: `reset` and `load_image` keep the history, `clear` drops it)
 
@@ -61,9 +88,9 @@ restarted image n history = record {
   registers = replicate register_count 0;
   state = record {
     control = fresh_control;
-    fault = Healthy;
-    last_transfer = Idle;
-    last_alu = Unused;
+    fault = None;
+    last_transfer = None;
+    last_alu = None;
   };
   counters = record { instructions = 0; micro_operations = 0; bus_reads = 0; bus_writes = 0 };
   columns = replicate columns_length 0;
@@ -86,18 +113,14 @@ image_words image = take memory_words image ++ replicate (memory_words - length 
 abbrev pub image_size : ℕ → ℕ
 image_size n = min n memory_words
 
--- the new machine where the call is served, else the old one
-unfoldable pub serve : ℕ → Code → Code → Served
-serve n new old = record { refused = n; machine = cond (eqb n 0) new old }
+unfoldable pub loaded : List ℕ → Code → Effect (Unit {0}) Code
+loaded image m = serve (served (is_machine m) tt) (restarted (image_words image) (image_size (length image)) m.history_len) m
 
-unfoldable pub loaded : List ℕ → Code → Served
-loaded image m = serve (refusal_of m) (restarted (image_words image) (image_size (length image)) m.history_len) m
+unfoldable pub reset : Code → Effect (Unit {0}) Code
+reset m = serve (served (is_machine m) tt) (restarted m.image m.image_len m.history_len) m
 
-unfoldable pub reset : Code → Served
-reset m = serve (refusal_of m) (restarted m.image m.image_len m.history_len) m
-
-unfoldable pub clear : Code → Served
-clear m = serve (refusal_of m) (restarted (image_words []) 0 0) m
+unfoldable pub clear : Code → Effect (Unit {0}) Code
+clear m = serve (served (is_machine m) tt) (restarted (image_words []) 0 0) m
 
 -- with another number of history records
 abbrev pub with_history : ℕ → Code → Code
@@ -118,5 +141,5 @@ with_history n m = record {
   history_len = n;
 }
 
-unfoldable pub clear_history : Code → Served
-clear_history m = serve (refusal_of m) (with_history 0 m) m
+unfoldable pub clear_history : Code → Effect (Unit {0}) Code
+clear_history m = serve (served (is_machine m) tt) (with_history 0 m) m

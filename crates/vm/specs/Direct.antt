@@ -1,8 +1,8 @@
 -- The direct engine (02, Change 11): a whole instruction as one change of state, without phases, and runs of such. What a word does is in `direct`,
 -- in `Work` and `Light`.
 -- Assumes nothing.
-use Rattle.std.specs.Prelude.{ℕ, zero, suc, ◌+◌, not, List}
-use Rattle.isa.specs.declared.opcode.Decoded.{Decoded}
+use Rattle.std.specs.Prelude.{ℕ, zero, suc, ◌+◌, not, List, Option, Ok}
+use Rattle.isa.specs.declared.opcode.Opcode.{Opcode}
 use Rattle.isa.specs.Word.{decode_word}
 use Rattle.control.specs.Last.{last_sent}
 use Rattle.guard.specs.declared.stops.RunStop.TheVariants.{Budget}
@@ -31,7 +31,7 @@ light_of m = record {
 }
 
 -- the machine after the word w, decoded, and its work, with the trace t
-abbrev pub whole_by : Decoded → ℕ → Light → List TraceRecord → Work → Machine
+abbrev pub whole_by : Option Opcode → ℕ → Light → List TraceRecord → Work → Machine
 whole_by d w l t k = record {
   state = state_by d w l.pc l.fault k;
   counters = count_whole d k.bus l.counters;
@@ -50,10 +50,10 @@ abbrev pub direct : Machine → Machine
 direct m = direct_on (light_of m) m.trace
 
 -- what its last tick did beside that
-abbrev pub last_done : Decoded → Work → Done
+abbrev pub last_done : Option Opcode → Work → Done
 last_done d k = record { bus = last_sent k.bus; write = k.write; faulted = not (counts d) }
 
 -- a run of whole instructions: breakpoints, instructions begun, budget left
 unfoldable pub direct_run : List ℕ → ℕ → ℕ → Machine → RunEnd
-direct_run breaks k zero m = after (verdict breaks k zero m) (run_end k m) (λ u. run_end k m Budget)
+direct_run breaks k zero m = after (verdict breaks k zero m) (run_end k m) (λ u. run_end k m (Ok Budget))
 direct_run breaks k (suc n) m = after (verdict breaks k (suc n) m) (run_end k m) (λ u. direct_run breaks (k + 1) n (direct m))

@@ -1,16 +1,16 @@
 -- Worked examples (01, section 9, 1* to 13*; 02, Changes 2, 6 and 7). Each row has the number of the example or of the change, a machine and the number of ticks that
 -- it makes, or the input of a guarded run, and what is then seen. One theorem says that the definitions give each row.
 -- Assumes nothing.
-use Rattle.std.specs.Prelude.{ℕ, zero, suc, ◌-◌, Bool, true, false, ◌≡◌, refl, List, [], ◌∷◌, ◌++◌, map, length, get_or, replicate}
+use Rattle.std.specs.Prelude.{ℕ, zero, suc, ◌-◌, Bool, true, false, ◌≡◌, refl, List, [], ◌∷◌, ◌++◌, map, length, get_or, replicate, Option, Some, None}
 use Prim.Native.String.{String}
 use Rattle.isa.specs.Sizes.{memory_words, register_count}
-use Rattle.isa.specs.declared.text.Text.{Text}
+use Rattle.isa.specs.Text.{Text}
 use Rattle.isa.specs.Text.{ascii, text}
 use Rattle.isa.specs.Opcode.{digits, decode_nibble}
 use Rattle.isa.specs.Format.{fill}
 use Rattle.plan.specs.Plan.{fetch_text, load_text, store_text, execute_text, tick_template, tick_text}
 use Rattle.control.specs.declared.control.Fault.{Fault}
-use Rattle.control.specs.declared.control.Fault.TheVariants.{Healthy, UnknownInstruction}
+use Rattle.control.specs.declared.control.Fault.TheVariants.{UnknownInstruction}
 use Rattle.control.specs.declared.control.State.{State}
 use Rattle.control.specs.Control.{with_pc, with_control}
 use Rattle.control.specs.Count.{count_tick}
@@ -70,7 +70,7 @@ pub record Seen : Type 0 where
   pub reads : ℕ
   pub writes : ℕ
   pub halted : Bool
-  pub fault : Fault
+  pub fault : Option Fault
 
 abbrev pub seen_of : List ℕ → List ℕ → List ℕ → Machine → Seen
 seen_of s k t m = record {
@@ -113,7 +113,7 @@ pub record Row : Type 0 where
   pub answer : Seen
 
 -- the example; image, registers, PC, ticks; text, R1, PC, instructions, halted, fault. All of them fetch once and write nothing
-abbrev pub row : ℕ → List ℕ → List ℕ → ℕ → ℕ → String → ℕ → ℕ → ℕ → Bool → Fault → Row
+abbrev pub row : ℕ → List ℕ → List ℕ → ℕ → ℕ → String → ℕ → ℕ → ℕ → Bool → Option Fault → Row
 row e image words p n x v q k h f = record {
   source = example e;
   given = ticks image words p n;
@@ -144,7 +144,7 @@ hiding program value = record {
 }
 
 -- the source; the input of a guarded run; the stop, the marks of R1 and of words 11 and 12, the totals, text, R1, PC, instructions, ticks, reads, writes, halted, fault
-abbrev pub guarded_row : Source → Input → ℕ → List ℕ → List ℕ → String → ℕ → ℕ → ℕ → ℕ → ℕ → ℕ → Bool → Fault → Row
+abbrev pub guarded_row : Source → Input → ℕ → List ℕ → List ℕ → String → ℕ → ℕ → ℕ → ℕ → ℕ → ℕ → Bool → Option Fault → Row
 guarded_row e i s g t x v q k n a b h f = record {
   source = e;
   given = guarded i;
@@ -174,11 +174,11 @@ jumping_behind w = hiding (0x3110 ∷ w ∷ 0xD105 ∷ 0xE000 ∷ 0 ∷ 0xE000 �
 
 -- the word cleared R1: the jump is taken
 abbrev pub cleared : ℕ → Row
-cleared w = guarded_row (change 2) (jumping_behind w) 0 (0 ∷ 0 ∷ 0 ∷ []) (replicate 5 1) "PC + 1 -> PC" 0 6 4 21 5 0 true Healthy
+cleared w = guarded_row (change 2) (jumping_behind w) 0 (0 ∷ 0 ∷ 0 ∷ []) (replicate 5 1) "PC + 1 -> PC" 0 6 4 21 5 0 true None
 
 -- it did not: stop 5 at the jump, with the word's text and R1
 abbrev pub uncleared : ℕ → String → ℕ → Row
-uncleared w x v = guarded_row (change 2) (jumping_behind w) 5 (1 ∷ 0 ∷ 0 ∷ []) (replicate 3 1) x v 2 2 12 3 0 false Healthy
+uncleared w x v = guarded_row (change 2) (jumping_behind w) 5 (1 ∷ 0 ∷ 0 ∷ []) (replicate 3 1) x v 2 2 12 3 0 false None
 
 -- Change 6: R1 from word 10, and stored at 11 and 12, and at 12 once more; then R1 open, and stored at 10 and 11
 abbrev pub storing : Input
@@ -197,11 +197,11 @@ joining c = record {
 
 -- it covers all three owners, which stay in the marks: the jump is asked, and not taken
 abbrev pub covered : ℕ → Row
-covered c = guarded_row (change 7) (joining c) 0 (7 ∷ 7 ∷ 6 ∷ []) (replicate 8 0) "PC + 1 -> PC" 0x1234 7 7 42 9 2 true Healthy
+covered c = guarded_row (change 7) (joining c) 0 (7 ∷ 7 ∷ 6 ∷ []) (replicate 8 0) "PC + 1 -> PC" 0x1234 7 7 42 9 2 true None
 
 -- it does not: stop 5 at the jump, with the totals
 abbrev pub uncovered : ℕ → List ℕ → Row
-uncovered c t = guarded_row (change 7) (joining c) 5 (7 ∷ 7 ∷ 6 ∷ []) t "MDR -> M[MAR]" 0x1234 5 5 33 7 2 false Healthy
+uncovered c t = guarded_row (change 7) (joining c) 5 (7 ∷ 7 ∷ 6 ∷ []) t "MDR -> M[MAR]" 0x1234 5 5 33 7 2 false None
 
 -- a HALT whose owner byte is 80
 abbrev pub owning : ℕ → Input
@@ -210,22 +210,22 @@ owning c = record { image = 0x1105 ∷ 0xE000 ∷ []; marks = 0 ∷ 0x80 ∷ rep
 -- 2* has three rows; 9* has its jump untaken, and then taken
 unfoldable pub rows : List Row
 rows =
-    row 1 (0x6123 ∷ []) (0 ∷ 0 ∷ 0xFFFF ∷ 1 ∷ []) 0 5 "R2 + R3 -> R1" 0 1 1 false Healthy
-    ∷ row 2 (0x7010 ∷ []) (0 ∷ 1 ∷ []) 0 5 "~R1 + 1 -> R1" 0xFFFF 1 1 false Healthy
-    ∷ row 2 (0x7010 ∷ []) (0 ∷ 0x8000 ∷ []) 0 5 "~R1 + 1 -> R1" 0x8000 1 1 false Healthy
-    ∷ row 2 (0x7010 ∷ []) (0 ∷ 0 ∷ []) 0 5 "~R1 + 1 -> R1" 0 1 1 false Healthy
-    ∷ row 3 (0x810F ∷ []) (0 ∷ 0xFFFF ∷ []) 0 5 "R1 >> 0F -> R1" 1 1 1 false Healthy
-    ∷ row 4 (0x8110 ∷ []) (0 ∷ 0xFFFF ∷ []) 0 5 "R1 >> 10 -> R1" 0 1 1 false Healthy
-    ∷ row 5 (0x910F ∷ []) (0 ∷ 0xFFFF ∷ []) 0 5 "R1 << 0F -> R1" 0x8000 1 1 false Healthy
-    ∷ row 6 (0xE000 ∷ []) [] 0 4 "PC + 1 -> PC" 0 1 1 true Healthy
-    ∷ row 7 (0x5000 ∷ []) [] 0 4 "PC + 1 -> PC" 0 1 0 true (UnknownInstruction 0x5000 0)
-    ∷ row 8 (replicate 255 0 ++ (0x1105 ∷ [])) [] 255 4 "PC + 1 -> PC" 0 0 0 false Healthy
-    ∷ row 9 (0xD120 ∷ []) (0 ∷ 1 ∷ []) 0 5 "if R1 = R0: 20 -> PC (not taken)" 1 1 1 false Healthy
-    ∷ row 9 (0xD120 ∷ []) (7 ∷ 7 ∷ []) 0 5 "if R1 = R0: 20 -> PC" 7 0x20 1 false Healthy
-    ∷ guarded_row (example 10) breaking 0 (0 ∷ 0 ∷ 0 ∷ []) (0 ∷ 0 ∷ []) "PC + 1 -> PC" 0 1 1 4 1 0 true Healthy
-    ∷ guarded_row (example 11) (hiding (0x3110 ∷ 0x4111 ∷ 0x1105 ∷ 0x4112 ∷ 0xE000 ∷ []) 0x1234) 0 (0 ∷ 1 ∷ 0 ∷ []) (1 ∷ 1 ∷ 2 ∷ 2 ∷ 2 ∷ 2 ∷ []) "PC + 1 -> PC" 5 5 5 30 6 2 true Healthy
-    ∷ guarded_row (example 12) (hiding (0x3110 ∷ 0xD105 ∷ []) 0x1234) 5 (1 ∷ 0 ∷ 0 ∷ []) (1 ∷ 1 ∷ []) "MDR -> R1" 0x1234 1 1 7 2 0 false Healthy
-    ∷ guarded_row (example 13) (hiding (0x3010 ∷ 0xD005 ∷ []) 0x1234) 2 (0 ∷ 0 ∷ 0 ∷ []) (1 ∷ 1 ∷ 1 ∷ 1 ∷ []) "PC + 1 -> PC" 0 6 2 16 4 0 true (UnknownInstruction 0 5)
+    row 1 (0x6123 ∷ []) (0 ∷ 0 ∷ 0xFFFF ∷ 1 ∷ []) 0 5 "R2 + R3 -> R1" 0 1 1 false None
+    ∷ row 2 (0x7010 ∷ []) (0 ∷ 1 ∷ []) 0 5 "~R1 + 1 -> R1" 0xFFFF 1 1 false None
+    ∷ row 2 (0x7010 ∷ []) (0 ∷ 0x8000 ∷ []) 0 5 "~R1 + 1 -> R1" 0x8000 1 1 false None
+    ∷ row 2 (0x7010 ∷ []) (0 ∷ 0 ∷ []) 0 5 "~R1 + 1 -> R1" 0 1 1 false None
+    ∷ row 3 (0x810F ∷ []) (0 ∷ 0xFFFF ∷ []) 0 5 "R1 >> 0F -> R1" 1 1 1 false None
+    ∷ row 4 (0x8110 ∷ []) (0 ∷ 0xFFFF ∷ []) 0 5 "R1 >> 10 -> R1" 0 1 1 false None
+    ∷ row 5 (0x910F ∷ []) (0 ∷ 0xFFFF ∷ []) 0 5 "R1 << 0F -> R1" 0x8000 1 1 false None
+    ∷ row 6 (0xE000 ∷ []) [] 0 4 "PC + 1 -> PC" 0 1 1 true None
+    ∷ row 7 (0x5000 ∷ []) [] 0 4 "PC + 1 -> PC" 0 1 0 true (Some (UnknownInstruction 0x5000 0))
+    ∷ row 8 (replicate 255 0 ++ (0x1105 ∷ [])) [] 255 4 "PC + 1 -> PC" 0 0 0 false None
+    ∷ row 9 (0xD120 ∷ []) (0 ∷ 1 ∷ []) 0 5 "if R1 = R0: 20 -> PC (not taken)" 1 1 1 false None
+    ∷ row 9 (0xD120 ∷ []) (7 ∷ 7 ∷ []) 0 5 "if R1 = R0: 20 -> PC" 7 0x20 1 false None
+    ∷ guarded_row (example 10) breaking 0 (0 ∷ 0 ∷ 0 ∷ []) (0 ∷ 0 ∷ []) "PC + 1 -> PC" 0 1 1 4 1 0 true None
+    ∷ guarded_row (example 11) (hiding (0x3110 ∷ 0x4111 ∷ 0x1105 ∷ 0x4112 ∷ 0xE000 ∷ []) 0x1234) 0 (0 ∷ 1 ∷ 0 ∷ []) (1 ∷ 1 ∷ 2 ∷ 2 ∷ 2 ∷ 2 ∷ []) "PC + 1 -> PC" 5 5 5 30 6 2 true None
+    ∷ guarded_row (example 12) (hiding (0x3110 ∷ 0xD105 ∷ []) 0x1234) 5 (1 ∷ 0 ∷ 0 ∷ []) (1 ∷ 1 ∷ []) "MDR -> R1" 0x1234 1 1 7 2 0 false None
+    ∷ guarded_row (example 13) (hiding (0x3010 ∷ 0xD005 ∷ []) 0x1234) 2 (0 ∷ 0 ∷ 0 ∷ []) (1 ∷ 1 ∷ 1 ∷ 1 ∷ []) "PC + 1 -> PC" 0 6 2 16 4 0 true (Some (UnknownInstruction 0 5))
     ∷ cleared 0xC111
     ∷ cleared 0xC122
     ∷ uncleared 0xC112 "R1 XOR R2 -> R1" 0x1234
@@ -234,14 +234,14 @@ rows =
     ∷ uncleared 0x810F "R1 >> 0F -> R1" 0
     ∷ cleared 0x9110
     ∷ uncleared 0x910F "R1 << 0F -> R1" 0
-    ∷ guarded_row (change 6) storing 0 (0 ∷ 0 ∷ 1 ∷ []) (1 ∷ 1 ∷ 2 ∷ 3 ∷ 3 ∷ 3 ∷ 2 ∷ 1 ∷ 1 ∷ []) "PC + 1 -> PC" 5 8 8 51 9 5 true Healthy
+    ∷ guarded_row (change 6) storing 0 (0 ∷ 0 ∷ 1 ∷ []) (1 ∷ 1 ∷ 2 ∷ 3 ∷ 3 ∷ 3 ∷ 2 ∷ 1 ∷ 1 ∷ []) "PC + 1 -> PC" 5 8 8 51 9 5 true None
     ∷ covered 7
     ∷ covered 0xFF
     ∷ uncovered 6 (1 ∷ 1 ∷ 1 ∷ 1 ∷ 2 ∷ 2 ∷ [])
     ∷ uncovered 5 (1 ∷ 1 ∷ 1 ∷ 1 ∷ 2 ∷ 3 ∷ [])
     ∷ uncovered 0 (2 ∷ 2 ∷ 2 ∷ 2 ∷ 3 ∷ 4 ∷ [])
-    ∷ guarded_row (change 7) (owning 0x80) 0 (0 ∷ 0 ∷ 0 ∷ []) (replicate 3 0) "PC + 1 -> PC" 5 2 2 9 2 0 true Healthy
-    ∷ guarded_row (change 7) (owning 0x7F) 4 (0 ∷ 0 ∷ 0 ∷ []) (replicate 2 1) "05 -> R1" 5 1 1 5 1 0 false Healthy
+    ∷ guarded_row (change 7) (owning 0x80) 0 (0 ∷ 0 ∷ 0 ∷ []) (replicate 3 0) "PC + 1 -> PC" 5 2 2 9 2 0 true None
+    ∷ guarded_row (change 7) (owning 0x7F) 4 (0 ∷ 0 ∷ 0 ∷ []) (replicate 2 1) "05 -> R1" 5 1 1 5 1 0 false None
     ∷ []
 
 pub rows_hold : map (λ (r : Row). seen r.given) rows ≡ map (λ (r : Row). r.answer) rows

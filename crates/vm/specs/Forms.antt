@@ -16,7 +16,7 @@ use Rattle.vm.specs.declared.guarded.GuardedCore.{GuardedCore}
 use Rattle.vm.specs.Instruction.{Steps, step_instruction}
 use Rattle.vm.specs.Run.{RunEnd, closed_state}
 use Rattle.vm.specs.View.{Parts, parts, view}
-use Rattle.vm.specs.Refusal.{parts_ok, step_refusal}
+use Rattle.vm.specs.Refusal.{parts_ok}
 use Rattle.vm.specs.Guard.{Guarded, GuardedEnd}
 
 -- ---- the parts of a call
@@ -47,15 +47,9 @@ pub record Fit (q : Parts) : Type 0 where
   pub touched : TouchFit q.core.touched_len q.touched
   pub trace : TraceFit q.core.trace_start q.core.trace_len q.columns q.numbers q.lengths
 
--- ---- refusals
-
 -- `parts_ok` of the parts, with the image's length
 abbrev pub sound : ℕ → Parts → Bool
 sound n q = parts_ok q.core n q.touched q.lengths
-
--- the refusal of a tick or an instruction of them
-abbrev pub refusal_on : ℕ → Parts → ℕ
-refusal_on n q = step_refusal q.core n q.touched q.lengths
 
 -- ---- one instruction
 

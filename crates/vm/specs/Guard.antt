@@ -1,10 +1,12 @@
 -- The guarded run (01, section 5; 02, Change 7): `run` of a new machine, with two tests after the budget's. `hid` says which marks hide a value: those with
 -- an owner outside the reader's clearance (`guarded_of`).
 -- Assumes nothing.
-use Rattle.std.specs.Prelude.{ℕ, zero, suc, ◌+◌, Bool, cond, List, [], eqb, length, get_or, replicate}
+use Rattle.std.specs.Prelude.{ℕ, zero, suc, ◌+◌, Bool, cond, List, [], eqb, length, get_or, replicate, Result, Ok, Err}
+use Rattle.encoding.specs.declared.refusal.Refusal.{Refusal}
+use Rattle.encoding.specs.Refusal.{refusal_number}
 use Rattle.isa.specs.Sizes.{memory_words, register_count}
 use Rattle.guard.specs.declared.stops.GuardedStop.{GuardedStop}
-use Rattle.guard.specs.declared.stops.GuardedStop.TheVariants.{Halted, Budget}
+use Rattle.guard.specs.declared.stops.GuardedStop.TheVariants.{Budget}
 use Rattle.marks.specs.Owners.{hidden_from}
 use Rattle.marks.specs.Marks.{Marks, marks_of, instruction_marks}
 use Rattle.marks.specs.Total.{hidden_count}
@@ -79,10 +81,10 @@ pub record GuardedAnswer : Type 0 where
   pub hidden_total : ℕ
   pub rest : Rest
 
--- of the struct that is answered
-abbrev pub guarded_answer_of : GuardedRun → GuardedAnswer
-guarded_answer_of r = record {
-  refused = r.refused;
+-- of the struct of a run that was served
+abbrev pub run_answer_of : GuardedRun → GuardedAnswer
+run_answer_of r = record {
+  refused = 0;
   stop = stop_number r.stop;
   executed = r.executed.0;
   guarded = record { machine = view_of r.machine; marks = marks_of r.marks.memory r.marks.registers r.marks.mdr };
@@ -103,16 +105,22 @@ served_answer i =
       rest = record { image = image_words i.image; length = length i.image; history = 0 };
     }
 
--- a refused one: an empty machine, no owners, stop 0 and nothing begun, whatever was handed in
-unfoldable pub refused_run : ℕ → GuardedRun
-refused_run n = record {
-  machine = restarted (image_words []) 0 0;
-  marks = record { memory = replicate memory_words 0; registers = replicate register_count 0; mdr = 0 };
-  stop = Halted;
-  executed = record { 0 = 0 };
-  hidden_total = 0;
-  refused = n;
-}
+-- a refused one: an empty machine, no owners, stop 0 and nothing begun, whatever was handed in; the call answers the number alone
+unfoldable pub refused_answer : ℕ → GuardedAnswer
+refused_answer n =
+    let empty = restarted (image_words []) 0 0 in
+    record {
+      refused = n;
+      stop = 0;
+      executed = 0;
+      guarded = record { machine = view_of empty; marks = marks_of (replicate memory_words 0) (replicate register_count 0) 0 };
+      hidden_total = 0;
+      rest = rest_of empty;
+    }
+
+abbrev pub guarded_answer_of : Result GuardedRun Refusal → GuardedAnswer
+guarded_answer_of (Ok r) = run_answer_of r
+guarded_answer_of (Err e) = refused_answer (refusal_number e)
 
 unfoldable pub guarded_answer : Input → GuardedAnswer
-guarded_answer i = cond (eqb (input_refusal i) 0) (served_answer i) (guarded_answer_of (refused_run (input_refusal i)))
+guarded_answer i = cond (eqb (input_refusal i) 0) (served_answer i) (refused_answer (input_refusal i))

@@ -1,11 +1,9 @@
 -- One instruction (01, section 4; vm.rs, `step_instruction`): ticks until one ends it.
 -- Assumes nothing.
-use Rattle.std.specs.Prelude.{ℕ, zero, suc, ◌+◌, false, List, [], ◌∷◌, length, get_or}
-use Rattle.isa.specs.declared.text.Text.{Text}
+use Rattle.std.specs.Prelude.{ℕ, zero, suc, ◌+◌, false, List, [], ◌∷◌, length, get_or, None}
+use Rattle.isa.specs.Text.{Text}
 use Rattle.isa.specs.Text.{text}
 use Rattle.plan.specs.declared.plan.TransferPlan.{TransferPlan}
-use Rattle.control.specs.declared.control.BusTransfer.TheVariants.{Idle}
-use Rattle.control.specs.declared.control.RegisterWrite.TheVariants.{Unwritten}
 use Rattle.vm.specs.declared.parts.Done.{Done}
 use Rattle.vm.specs.Machine.{Machine, next_text, next_done, micro_step}
 
@@ -16,7 +14,7 @@ pub record Steps : Type 0 where
   pub done : Done
 
 abbrev pub nothing : Done
-nothing = record { bus = Idle; write = Unwritten; faulted = false }
+nothing = record { bus = None; write = None; faulted = false }
 
 abbrev pub started : Machine → Steps
 started m = record { machine = m; ticks = 0; done = nothing }

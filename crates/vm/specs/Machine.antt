@@ -1,7 +1,7 @@
 -- One tick of a running machine (01, section 3; vm.rs, `micro_step`): `tick_of` says what it does to the control unit, and what it sends to the arrays.
 -- Assumes nothing.
 use Rattle.std.specs.Prelude.{ℕ, not, ◌&&◌, List, eqb, get_or}
-use Rattle.isa.specs.declared.text.Text.{Text}
+use Rattle.isa.specs.Text.{Text}
 use Rattle.isa.specs.Text.{text}
 use Rattle.isa.specs.Word.{digit_x, digit_y, digit_z}
 use Rattle.plan.specs.Plan.{tick_text}

@@ -1,33 +1,23 @@
 -- `run` (01, sections 1 and 4; vm.rs): what it answers, and the machine that it leaves.
 -- Assumes nothing.
-use Rattle.std.specs.Prelude.{ℕ, Bool, cond, List}
+use Rattle.std.specs.Prelude.{ℕ, Bool, cond, List, Ok, Err}
+use Rattle.encoding.specs.declared.refusal.Refusal.TheVariants.{NoMachine}
 use Rattle.vm.specs.declared.machine.Machine.{Machine as Code}
 use Rattle.vm.specs.declared.run.Ran.{Ran}
-use Rattle.guard.specs.declared.stops.RunStop.TheVariants.{AlreadyHalted, Refused}
-use Rattle.guard.specs.Stops.{RunCode, run_code}
+use Rattle.guard.specs.declared.stops.RunStop.TheVariants.{AlreadyHalted}
 use Rattle.vm.specs.Machine.{Machine}
 use Rattle.vm.specs.Run.{RunEnd, closed_state, run}
-use Rattle.vm.specs.Calls.{view_of}
 
 -- whether it is a machine, breakpoints, budget
 unfoldable pub run_call : Bool → List ℕ → ℕ → Machine → RunEnd
 run_call ok breaks n m =
     cond ok
-    (cond m.state.control.halted (record { stop = AlreadyHalted; executed = 0; machine = m }) (run breaks 0 n m))
-    (record { stop = Refused 8; executed = 0; machine = m })
+    (cond m.state.control.halted (record { stop = Ok AlreadyHalted; executed = 0; machine = m }) (run breaks 0 n m))
+    (record { stop = Err NoMachine; executed = 0; machine = m })
 
--- what a run answers (01, last paragraph): its stop by number and values, the instructions that it began, and the machine that it leaves
-pub record RunAnswer : Type 0 where
-  pub stop : RunCode
-  pub executed : ℕ
-  pub machine : Machine
-
-abbrev pub run_answer : RunEnd → RunAnswer
-run_answer e = record { stop = run_code e.stop; executed = e.executed; machine = e.machine }
-
--- the same of the struct that the call answers
-abbrev pub answer_of : Ran → RunAnswer
-answer_of r = record { stop = run_code r.stop; executed = r.executed.0; machine = view_of r.machine }
+-- the struct that the call answers, with the machine that it leaves
+abbrev pub ran : Ran → Machine → RunEnd
+ran r m = record { stop = r.stop; executed = r.executed.0; machine = m }
 
 -- the struct after a run that began nothing: as it came, dead places and all, but for the halt by a spent budget
 abbrev pub closed_code : ℕ → Code → Code

@@ -1,21 +1,22 @@
 // The guarded run: a run of a new machine that stops before it would show what is hidden. The plain
 // machine does not see the marks; they move beside it, once for each instruction, and with them the total of hidden
 // words, which is counted once. Hidden is what the reader's clearance does not cover.
-ghost use Rattle.std.specs.Prelude.{◌≡◌, true};
+ghost use Rattle.std.specs.Prelude.{◌≡◌, true, IfOk};
 ghost use Rattle.marks.specs.Owners.{hidden_from};
 ghost use Rattle.marks.specs.Total.{IsCount};
-ghost use Rattle.guard.specs.Input.{input_from, guard_refusal};
+ghost use Rattle.guard.specs.Input.{input_from};
 ghost use Rattle.vm.specs.Guard.{guarded_run};
 ghost use Rattle.vm.specs.Forms.{Fit, given, came, left, guarded_on, end_on};
-ghost use Rattle.vm.specs.Guard.{guarded_answer_of, served_answer, refused_run, guarded_answer};
+ghost use Rattle.vm.specs.Guard.{guarded_answer_of, guarded_answer};
 ghost use Rattle.vm.specs.Calls.{is_machine};
 
 use crate::engine::{forward_parts, next_parts};
-use crate::machine::{Machine, image_size, image_words, mark_words, switched_on};
+use crate::machine::{Machine, first_words, image_size, switched_on};
 use crate::parts::Core;
 use crate::run::closed_core;
 use control::Address;
-use guard::{Begun, GuardedStop, Verdict, guard_refusal, judge};
+use encoding::Refusal;
+use guard::{Begun, GuardedStop, guard_refusal, judge};
 use isa::{MEMORY_WORDS, REGISTER_COUNT};
 use marks::{Marks, count_hidden, mark_instruction, total_instruction};
 use trace::{COLUMNS_LENGTH, TRACE_LIMIT};
@@ -75,7 +76,7 @@ fn guarded_parts(
             mark,
             register_marks,
         );
-        if let Verdict::Stop(stop) = verdict {
+        if let Some(stop) = verdict {
             let core = closed_core(stop.number(), s);
             return GuardedCore {
                 core,
@@ -113,8 +114,7 @@ fn guarded_parts(
     }
 }
 
-// `refused` is 0, or the number of the refusal, beside which the rest is a fixed answer. `hidden_total` words are hidden
-// from the reader at the stop.
+// A run that was served. `hidden_total` words are hidden from the reader at the stop.
 #[derive(Drop)]
 pub struct GuardedRun {
     pub machine: Machine,
@@ -122,113 +122,6 @@ pub struct GuardedRun {
     pub stop: GuardedStop,
     pub executed: Begun,
     pub hidden_total: u16,
-    pub refused: u8,
-}
-
-// What is answered beside a refusal: nothing of it was handed in.
-fn refused_run(refused: u8) -> GuardedRun
-    ensures { result ≡ refused_run refused }
-{
-    let machine = Machine::new();
-    let marks = Marks {
-        memory: [0; MEMORY_WORDS],
-        registers: [0; REGISTER_COUNT],
-        mdr: 0,
-    };
-    GuardedRun {
-        machine,
-        marks,
-        stop: GuardedStop::Halted,
-        executed: Begun(0),
-        hidden_total: 0,
-        refused,
-    }
-}
-
-// The run of an input that is not refused.
-fn accepted_run(
-    image: &[u16],
-    marks: &[u8],
-    budget: Begun,
-    breakpoints: &[u8],
-    clearance: u8,
-) -> GuardedRun
-    requires { guard_refusal image.now marks.now budget.0 breakpoints.now ≡ 0 }
-    ensures { (guarded_answer_of result
-        ≡ served_answer (input_from image.now marks.now budget.0 breakpoints.now clearance))
-        × (is_machine result.machine ≡ true) }
-{
-    let words = image_words(image);
-    let size = image_size(image.len());
-    let new = switched_on(words, size, 0);
-    let state = new.state;
-    let counters = new.counters;
-    let core = Core {
-        state,
-        counters,
-        touched_len: new.touched_len,
-        trace_start: new.trace_start,
-        trace_len: new.trace_len,
-    };
-    let mut registers = new.registers;
-    let mut memory = new.memory;
-    let mut numbers = new.numbers;
-    let mut columns = new.columns;
-    let mut lengths = new.lengths;
-    let mut touched = new.touched;
-    let mut word_marks = mark_words(marks);
-    let mut register_marks = [0u8; REGISTER_COUNT];
-    let hidden_total = count_hidden(clearance, marks) as u16;
-    let r = guarded_parts(
-        clearance,
-        core,
-        budget,
-        hidden_total,
-        breakpoints,
-        &mut word_marks,
-        &mut register_marks,
-        &mut memory,
-        &mut registers,
-        &mut touched,
-        &mut columns,
-        &mut numbers,
-        &mut lengths,
-    );
-    let end = r.core;
-    let stop = r.stop;
-    let executed = r.executed;
-    let state = end.state;
-    let counters = end.counters;
-    let image = new.image;
-    let machine = Machine {
-        memory,
-        registers,
-        state,
-        counters,
-        columns,
-        numbers,
-        lengths,
-        trace_start: end.trace_start,
-        trace_len: end.trace_len,
-        touched,
-        touched_len: end.touched_len,
-        image,
-        image_len: new.image_len,
-        history_len: new.history_len,
-    };
-    let marks = Marks {
-        memory: word_marks,
-        registers: register_marks,
-        mdr: r.mdr_mark,
-    };
-    GuardedRun {
-        machine,
-        marks,
-        stop,
-        executed,
-        hidden_total: r.hidden_total,
-        refused: 0,
-    }
 }
 
 // Load an image on a new machine, and run it until a stop, for a reader with this clearance; `marks` are the owners of
@@ -239,15 +132,44 @@ pub fn guarded_run(
     budget: Begun,
     breakpoints: &[u8],
     clearance: u8,
-) -> GuardedRun
+) -> Result<GuardedRun, Refusal>
     ensures answer { guarded_answer_of result
         ≡ guarded_answer (input_from image.now marks.now budget.0 breakpoints.now clearance) }
-    ensures fixed { (result.refused ≡ 0 → ⊥) → result ≡ refused_run result.refused }
-    ensures machine { is_machine result.machine ≡ true }
+    ensures machine { IfOk result (λ r. is_machine r.machine ≡ true) }
 {
-    let refused = guard_refusal(image, marks, budget, breakpoints);
-    if refused != 0 {
-        return refused_run(refused);
-    }
-    accepted_run(image, marks, budget, breakpoints, clearance)
+    guard_refusal(image, marks, budget, breakpoints)?;
+    let words = first_words(image, 0);
+    let size = image_size(image.len());
+    let mut machine = switched_on(words, size, 0);
+    let mut word_marks = first_words(marks, 0);
+    let mut register_marks = [0u8; REGISTER_COUNT];
+    let hidden_total = count_hidden(clearance, marks) as u16;
+    let r = guarded_parts(
+        clearance,
+        machine.core(),
+        budget,
+        hidden_total,
+        breakpoints,
+        &mut word_marks,
+        &mut register_marks,
+        &mut machine.memory,
+        &mut machine.registers,
+        &mut machine.touched,
+        &mut machine.columns,
+        &mut machine.numbers,
+        &mut machine.lengths,
+    );
+    machine.set_core(r.core);
+    let marks = Marks {
+        memory: word_marks,
+        registers: register_marks,
+        mdr: r.mdr_mark,
+    };
+    Ok(GuardedRun {
+        machine,
+        marks,
+        stop: r.stop,
+        executed: r.executed,
+        hidden_total: r.hidden_total,
+    })
 }

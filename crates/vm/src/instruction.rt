@@ -42,8 +42,8 @@ pub(crate) fn instruction_parts(
 {
     let mut s = from;
     let mut done = Done {
-        bus: BusTransfer::Idle,
-        write: RegisterWrite::Unwritten,
+        bus: None,
+        write: None,
         faulted: false,
     };
     let mut made: u64 = 0;

@@ -1,5 +1,5 @@
 // The MASSEY machine: the arrays above one tick, instructions, runs, and the calls on a machine. Each
-// call takes the machine by value, checks it once, and gives it back.
+// call checks the machine once, and is refused where it is none.
 #![tactic(auto)]
 
 mod engine;
@@ -18,10 +18,9 @@ mod texts;
 pub use guard::Begun;
 pub use guarded::{GuardedRun, guarded_run};
 pub use instruction::Ticks;
-pub use machine::{Machine, Served};
-pub use micro::{MicroAnswer, MicroOp};
+pub use machine::Machine;
+pub use micro::MicroOp;
 pub use parts::Core;
 pub use plan::{execute_tick_count, transfer_plan};
-pub use readings::{ImageRead, InstructionRead, NumberRead, PositionRead, RunningRead, TextRead};
 pub use run::Ran;
-pub use step::{InstructionAnswer, InstructionReport};
+pub use step::InstructionReport;

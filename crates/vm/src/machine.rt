@@ -1,16 +1,16 @@
-// The machine by value, and the calls that start it anew.
-ghost use Rattle.std.specs.Prelude.{◌≡◌, []};
-ghost use Rattle.vm.specs.Calls.{core_of, refusal_of, restarted, image_words, image_size, serve, loaded, reset, clear, clear_history};
+// The machine, and the calls that start it anew.
+ghost use Rattle.std.specs.Prelude.{◌≡◌, ◌-◌, ◌++◌, [], length, take, replicate};
+ghost use Rattle.isa.specs.Sizes.{memory_words};
+ghost use Rattle.vm.specs.Calls.{core_of, with_core, restarted, image_words, image_size, answered, loaded, reset, clear, clear_history};
 
 use crate::parts::Core;
-use crate::refusal::parts_ok;
 use control::{Address, AluRecord, BusTransfer, Control, Counters, Fault, State};
-use isa::{MEMORY_WORDS, REGISTER_COUNT, least};
+use encoding::Refusal;
+use isa::{MEMORY_WORDS, REGISTER_COUNT};
 use trace::{COLUMNS_LENGTH, TRACE_LIMIT};
 
 // All that the Rust's machine holds; of its history, the number of records. The trace is a ring: its
-// oldest record is in slot `trace_start` modulo 512. What stands past a count shows nowhere. A number
-// stands between two large arrays, so that the compiler copies each straight to its place.
+// oldest record is in slot `trace_start` modulo 512. What stands past a count shows nowhere.
 #[derive(Clone, Copy)]
 pub struct Machine {
     pub touched: [Address; MEMORY_WORDS],
@@ -27,39 +27,6 @@ pub struct Machine {
     pub image: [u16; MEMORY_WORDS],
     pub state: State,
     pub counters: Counters,
-}
-
-// The answer of a call that tells nothing more: 0, or the number of the refusal.
-#[derive(Drop)]
-pub struct Served {
-    pub machine: Machine,
-    pub refused: u8,
-}
-
-// The part of a machine that is small.
-fn core_of(m: Machine) -> Core
-    ensures { result ≡ core_of m }
-{
-    let state = m.state;
-    let counters = m.counters;
-    Core {
-        state,
-        counters,
-        touched_len: m.touched_len,
-        trace_start: m.trace_start,
-        trace_len: m.trace_len,
-    }
-}
-
-// 8 where it is no machine, else 0.
-pub(crate) fn refusal_of(m: Machine) -> u8
-    ensures { result ≡ refusal_of m }
-{
-    let core = core_of(m);
-    let touched = m.touched;
-    let lengths = m.lengths;
-    let good = parts_ok(core, m.image_len, &touched, &lengths);
-    if good { 0 } else { 8 }
 }
 
 // A machine that was just switched on with an image in memory.
@@ -82,9 +49,9 @@ pub(crate) fn switched_on(
     };
     let state = State {
         control,
-        fault: Fault::Healthy,
-        last_transfer: BusTransfer::Idle,
-        last_alu: AluRecord::Unused,
+        fault: None,
+        last_transfer: None,
+        last_alu: None,
     };
     let counters = Counters {
         instructions: 0,
@@ -115,35 +82,13 @@ pub(crate) fn switched_on(
     }
 }
 
-// The first 256 words, and zeros past them.
-pub(crate) fn image_words(image: &[u16]) -> [u16; MEMORY_WORDS]
-    ensures { result ≡ image_words image.now }
+// The first 256 of an image's words, or of its marks, and `none` past them.
+pub(crate) fn first_words<T: Copy>(all: &[T], none: T) -> [T; MEMORY_WORDS]
+    ensures { result ≡ take memory_words all.now ++ replicate (memory_words - length all.now) none }
 {
-    let mut words = [0u16; MEMORY_WORDS];
-    let mut i = 0;
-    while i < MEMORY_WORDS {
-        if i == image.len() {
-            return words;
-        }
-        words[i] = image[i];
-        i += 1;
-    }
-    words
-}
-
-// The marks of memory: the first 256, and open past them.
-pub(crate) fn mark_words(marks: &[u8]) -> [u8; MEMORY_WORDS]
-    ensures { result ≡ image_words marks.now }
-{
-    let mut words = [0u8; MEMORY_WORDS];
-    let mut i = 0;
-    while i < MEMORY_WORDS {
-        if i == marks.len() {
-            return words;
-        }
-        words[i] = marks[i];
-        i += 1;
-    }
+    let n = all.len().min(MEMORY_WORDS);
+    let mut words = [none; MEMORY_WORDS];
+    words[..n].copy_from_slice(&all[..n]);
     words
 }
 
@@ -151,23 +96,7 @@ pub(crate) fn mark_words(marks: &[u8]) -> [u8; MEMORY_WORDS]
 pub(crate) fn image_size(len: usize) -> usize
     ensures { result ≡ image_size len }
 {
-    least(len, MEMORY_WORDS)
-}
-
-// The new machine where the call is served, else the old one.
-fn serve_with(refused: u8, new: Machine, old: Machine) -> Served
-    ensures { result ≡ serve refused new old }
-{
-    if refused == 0 {
-        return Served {
-            refused,
-            machine: new,
-        };
-    }
-    Served {
-        refused,
-        machine: old,
-    }
+    len.min(MEMORY_WORDS)
 }
 
 impl Machine {
@@ -179,44 +108,70 @@ impl Machine {
         switched_on(image, 0, 0)
     }
 
-    // Load a program image, of which the first 256 words count, and reset the machine.
-    pub fn load_image(self, image: &[u16]) -> Served
-        ensures { result ≡ loaded image.now self }
+    // The part of a machine that is small.
+    pub(crate) fn core(&self) -> Core
+        ensures { result ≡ core_of self.now }
     {
-        let refused = refusal_of(self);
-        let words = image_words(image);
+        Core {
+            state: self.state,
+            counters: self.counters,
+            touched_len: self.touched_len,
+            trace_start: self.trace_start,
+            trace_len: self.trace_len,
+        }
+    }
+
+    // With that part anew.
+    pub(crate) fn set_core(&mut self, core: Core)
+        ensures { self.new ≡ with_core core self.old }
+    {
+        self.state = core.state;
+        self.counters = core.counters;
+        self.touched_len = core.touched_len;
+        self.trace_start = core.trace_start;
+        self.trace_len = core.trace_len;
+    }
+
+    // Load a program image, of which the first 256 words count, and reset the machine.
+    #[tactic(auto, unfolding(crate::specs::Calls::loaded, crate::specs::Calls::image_words))]
+    pub fn load_image(&mut self, image: &[u16]) -> Result<(), Refusal>
+        ensures { answered result self.new ≡ loaded image.now self.old }
+    {
+        self.served()?;
+        let words = first_words(image, 0);
         let len = image_size(image.len());
-        let new = switched_on(words, len, self.history_len);
-        serve_with(refused, new, self)
+        *self = switched_on(words, len, self.history_len);
+        Ok(())
     }
 
     // Restore the loaded image and clear all registers, as if the machine had just been switched on
     // with this program in memory.
-    pub fn reset(self) -> Served
-        ensures { result ≡ reset self }
+    #[tactic(auto, unfolding(crate::specs::Calls::reset))]
+    pub fn reset(&mut self) -> Result<(), Refusal>
+        ensures { answered result self.new ≡ reset self.old }
     {
-        let refused = refusal_of(self);
-        let image = self.image;
-        let new = switched_on(image, self.image_len, self.history_len);
-        serve_with(refused, new, self)
+        self.served()?;
+        *self = switched_on(self.image, self.image_len, self.history_len);
+        Ok(())
     }
 
     // Clear memory (including the loaded image), all registers and the history.
-    pub fn clear(self) -> Served
-        ensures { result ≡ clear self }
+    #[tactic(auto, unfolding(crate::specs::Calls::clear))]
+    pub fn clear(&mut self) -> Result<(), Refusal>
+        ensures { answered result self.new ≡ clear self.old }
     {
-        let refused = refusal_of(self);
-        let new = Machine::new();
-        serve_with(refused, new, self)
+        self.served()?;
+        *self = Machine::new();
+        Ok(())
     }
 
     // Drop all saved states.
-    pub fn clear_history(self) -> Served
-        ensures { result ≡ clear_history self }
+    #[tactic(auto, unfolding(crate::specs::Calls::clear_history))]
+    pub fn clear_history(&mut self) -> Result<(), Refusal>
+        ensures { answered result self.new ≡ clear_history self.old }
     {
-        let refused = refusal_of(self);
-        let mut new = self;
-        new.history_len = 0;
-        serve_with(refused, new, self)
+        self.served()?;
+        self.history_len = 0;
+        Ok(())
     }
 }

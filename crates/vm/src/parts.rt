@@ -26,8 +26,8 @@ pub struct Core {
 // What a tick did beside the machine that it leaves.
 #[derive(Drop)]
 pub struct Done {
-    pub bus: BusTransfer,
-    pub write: RegisterWrite,
+    pub bus: Option<BusTransfer>,
+    pub write: Option<RegisterWrite>,
     pub faulted: bool,
 }
 

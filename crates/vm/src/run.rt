@@ -3,15 +3,15 @@ ghost use Rattle.std.specs.Prelude.{◌≡◌, true};
 ghost use Rattle.vm.specs.Run.{run_number, run};
 ghost use Rattle.vm.specs.View.{view};
 ghost use Rattle.vm.specs.Calls.{view_of, is_machine, rest_of};
-ghost use Rattle.vm.specs.RunCalls.{run_call, run_answer, answer_of, closed_code};
-ghost use Rattle.vm.specs.Forms.{Fit, closed_core, closed_parts, given, came, left, sound, Sizes, ran_on};
+ghost use Rattle.vm.specs.RunCalls.{run_call, ran, closed_code};
+ghost use Rattle.vm.specs.Forms.{Fit, closed_core, closed_parts, given, came, left, ran_on};
 
 use crate::engine::{forward_parts, next_parts};
 use crate::machine::Machine;
 use crate::parts::Core;
-use crate::refusal::parts_ok;
 use control::{Address, Fault, State};
-use guard::{Begun, RunStop, RunVerdict, run_verdict};
+use encoding::Refusal;
+use guard::{Begun, RunStop, run_verdict};
 use isa::{MEMORY_WORDS, REGISTER_COUNT};
 use marks::EVERYONE;
 use trace::{COLUMNS_LENGTH, TRACE_LIMIT};
@@ -19,7 +19,7 @@ use trace::{COLUMNS_LENGTH, TRACE_LIMIT};
 #[derive(Drop)]
 pub struct RanCore {
     pub core: Core,
-    pub stop: RunStop,
+    pub stop: Result<RunStop, Refusal>,
     pub executed: Begun,
 }
 
@@ -35,10 +35,10 @@ pub(crate) fn closed_core(stop: u8, s: Core) -> Core
     control.halted = true;
     let last_transfer = old.last_transfer;
     let last_alu = old.last_alu;
-    let fault = Fault::StepBudgetExhausted {
+    let fault = Some(Fault::StepBudgetExhausted {
         word: control.ir,
         address: control.pc,
-    };
+    });
     let state = State {
         control,
         fault,
@@ -52,6 +52,16 @@ pub(crate) fn closed_core(stop: u8, s: Core) -> Core
         touched_len: s.touched_len,
         trace_start: s.trace_start,
         trace_len: s.trace_len,
+    }
+}
+
+// The number of a run's stop, 0 beside a refusal.
+fn run_number(stop: Result<RunStop, Refusal>) -> u8
+    ensures { result ≡ run_number stop }
+{
+    match stop {
+        Ok(stop) => stop.number(),
+        Err(_) => 0,
     }
 }
 
@@ -84,8 +94,8 @@ pub(crate) fn run_parts(
         let state = s.state;
         let counters = s.counters;
         let verdict = run_verdict(state, counters, breakpoints, Begun(begun), Begun(limit));
-        if let RunVerdict::Stop(stop) = verdict {
-            let core = closed_core(stop.number(), s);
+        if let Some(stop) = verdict {
+            let core = closed_core(run_number(stop), s);
             return RanCore {
                 core,
                 stop,
@@ -116,133 +126,59 @@ pub(crate) fn run_parts(
     }
 }
 
-// A run of a machine that may be none, or halted.
-fn run_checked(
-    core: Core,
-    size: usize,
-    budget: Begun,
-    breakpoints: &[u8],
-    memory: &mut [u16; MEMORY_WORDS],
-    registers: &mut [u16; REGISTER_COUNT],
-    touched: &mut [Address; MEMORY_WORDS],
-    columns: &mut [u8; COLUMNS_LENGTH],
-    numbers: &mut [u64; TRACE_LIMIT],
-    lengths: &mut [u8; TRACE_LIMIT],
-) -> RanCore
-    requires { Sizes (given core memory registers touched columns numbers lengths) }
-    ensures { let was = came core memory registers touched columns numbers lengths in
-        let is = left result.core memory registers touched columns numbers lengths in
-        (ran_on result is ≡ run_call (sound size was) breakpoints.now budget.0 (view was))
-        × (result.executed.0 ≡ 0 → is ≡ closed_parts (run_number result.stop) was)
-        × (sound size was ≡ true → sound size is ≡ true) }
-{
-    let good = parts_ok(core, size, touched, lengths);
-    if !good {
-        return RanCore {
-            core,
-            stop: RunStop::Refused(8),
-            executed: Begun(0),
-        };
-    }
-    if core.state.control.halted {
-        return RanCore {
-            core,
-            stop: RunStop::AlreadyHalted,
-            executed: Begun(0),
-        };
-    }
-    run_parts(
-        core,
-        budget,
-        breakpoints,
-        memory,
-        registers,
-        touched,
-        columns,
-        numbers,
-        lengths,
-    )
-}
-
 // After a run: why it stopped, and how many instructions it began.
 #[derive(Drop)]
 pub struct Ran {
-    pub machine: Machine,
-    pub stop: RunStop,
+    pub stop: Result<RunStop, Refusal>,
     pub executed: Begun,
 }
 
 impl Machine {
     // Run until HALT, a fault, a breakpoint or the end of the budget.
-    pub fn run(self, budget: Begun, breakpoints: &[u8]) -> Ran
-        ensures answer { answer_of result ≡ run_answer (run_call (is_machine self) breakpoints.now budget.0 (view_of self)) }
-        ensures rest { rest_of result.machine ≡ rest_of self }
-        ensures kept { result.executed.0 ≡ 0 → result.machine ≡ closed_code (run_number result.stop) self }
-        ensures lasting { is_machine self ≡ true → is_machine result.machine ≡ true }
+    #[tactic(auto, unfolding(crate::specs::RunCalls::run_call))]
+    pub fn run(&mut self, budget: Begun, breakpoints: &[u8]) -> Ran
+        ensures answer { ran result (view_of self.new) ≡ run_call (is_machine self.old) breakpoints.now budget.0 (view_of self.old) }
+        ensures rest { rest_of self.new ≡ rest_of self.old }
+        ensures kept { result.executed.0 ≡ 0 → self.new ≡ closed_code (run_number result.stop) self.old }
+        ensures lasting { is_machine self.old ≡ true → is_machine self.new ≡ true }
     {
-        let state = self.state;
-        let counters = self.counters;
-        let core = Core {
-            state,
-            counters,
-            touched_len: self.touched_len,
-            trace_start: self.trace_start,
-            trace_len: self.trace_len,
-        };
-        let mut registers = self.registers;
-        let mut memory = self.memory;
-        let mut numbers = self.numbers;
-        let mut columns = self.columns;
-        let mut lengths = self.lengths;
-        let mut touched = self.touched;
-        let r = run_checked(
-            core,
-            self.image_len,
+        if !self.is_machine() {
+            return Ran {
+                stop: Err(Refusal::NoMachine),
+                executed: Begun(0),
+            };
+        }
+        if self.state.control.halted {
+            return Ran {
+                stop: Ok(RunStop::AlreadyHalted),
+                executed: Begun(0),
+            };
+        }
+        let r = run_parts(
+            self.core(),
             budget,
             breakpoints,
-            &mut memory,
-            &mut registers,
-            &mut touched,
-            &mut columns,
-            &mut numbers,
-            &mut lengths,
+            &mut self.memory,
+            &mut self.registers,
+            &mut self.touched,
+            &mut self.columns,
+            &mut self.numbers,
+            &mut self.lengths,
         );
-        let end = r.core;
-        let stop = r.stop;
-        let executed = r.executed;
-        let state = end.state;
-        let counters = end.counters;
-        let image = self.image;
-        let machine = Machine {
-            memory,
-            registers,
-            state,
-            counters,
-            columns,
-            numbers,
-            lengths,
-            trace_start: end.trace_start,
-            trace_len: end.trace_len,
-            touched,
-            touched_len: end.touched_len,
-            image,
-            image_len: self.image_len,
-            history_len: self.history_len,
-        };
+        self.set_core(r.core);
         Ran {
-            stop,
-            executed,
-            machine,
+            stop: r.stop,
+            executed: r.executed,
         }
     }
 
     // The same by the direct engine, which `run` is: its instructions are whole ones, but for one that the call finds
     // under way.
-    pub fn direct_run(self, budget: Begun, breakpoints: &[u8]) -> Ran
-        ensures answer { answer_of result ≡ run_answer (run_call (is_machine self) breakpoints.now budget.0 (view_of self)) }
-        ensures rest { rest_of result.machine ≡ rest_of self }
-        ensures kept { result.executed.0 ≡ 0 → result.machine ≡ closed_code (run_number result.stop) self }
-        ensures lasting { is_machine self ≡ true → is_machine result.machine ≡ true }
+    pub fn direct_run(&mut self, budget: Begun, breakpoints: &[u8]) -> Ran
+        ensures answer { ran result (view_of self.new) ≡ run_call (is_machine self.old) breakpoints.now budget.0 (view_of self.old) }
+        ensures rest { rest_of self.new ≡ rest_of self.old }
+        ensures kept { result.executed.0 ≡ 0 → self.new ≡ closed_code (run_number result.stop) self.old }
+        ensures lasting { is_machine self.old ≡ true → is_machine self.new ≡ true }
     {
         self.run(budget, breakpoints)
     }

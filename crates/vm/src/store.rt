@@ -1,94 +1,64 @@
 // The history in a lent store: a state is kept behind those before it, and the newest is given back.
 ghost use Rattle.std.specs.Prelude.{◌≡◌, length};
-ghost use Rattle.vm.specs.History.{saved, saved_store, undone};
+ghost use Rattle.vm.specs.Calls.{answered};
+ghost use Rattle.vm.specs.History.{saved, saved_store, restored, undone};
 
-use crate::machine::{Machine, Served};
-use crate::parts::Core;
-use crate::refusal::parts_ok;
+use crate::machine::Machine;
+use encoding::Refusal;
 use history::{
-    Snapshot, differing_addresses, newest_record, one_less, push_record, restored_counters,
-    restored_state, store_refusal, undo_refusal,
+    Snapshot, differing_addresses, newest_record, push_record, restored_counters, restored_state,
+    store_refusal, undo_refusal,
 };
 
-// Both calls change the machine in its place, hand no part of it on but the small ones, and leave by
-// one exit: the compiler then copies none of it.
 impl Machine {
     // Save the current state so that `undo` can return to it. At the store's limit the oldest goes.
-    pub fn push_history(self, store: &mut [u8]) -> Served
-        ensures answer { result ≡ saved (length store.old) self }
-        ensures left { store.new ≡ saved_store store.old self }
+    #[tactic(auto, unfolding(crate::specs::History::store_refusal, crate::specs::History::saved, crate::specs::History::saved_store))]
+    pub fn push_history(&mut self, store: &mut [u8]) -> Result<(), Refusal>
+        ensures answer { answered result self.new ≡ saved (length store.old) self.old }
+        ensures left { store.new ≡ saved_store store.old self.old }
     {
-        let state = self.state;
-        let counters = self.counters;
-        let core = Core {
-            state,
-            counters,
-            touched_len: self.touched_len,
-            trace_start: self.trace_start,
-            trace_len: self.trace_len,
+        store_refusal(self.is_machine(), store.len(), self.history_len)?;
+        let snapshot = Snapshot {
+            registers: self.registers,
+            memory: self.memory,
+            control: self.state.control,
+            fault: self.state.fault,
+            instructions: self.counters.instructions,
+            micro_operations: self.counters.micro_operations,
         };
-        let touched = self.touched;
-        let lengths = self.lengths;
-        let good = parts_ok(core, self.image_len, &touched, &lengths);
-        let refused = store_refusal(good, store.len(), self.history_len);
-        let registers = self.registers;
-        let memory = self.memory;
-        let control = state.control;
-        let fault = state.fault;
-        let mut machine = self;
-        if refused == 0 {
-            let snapshot = Snapshot {
-                registers,
-                memory,
-                control,
-                fault,
-                instructions: counters.instructions,
-                micro_operations: counters.micro_operations,
-            };
-            let count = push_record(store, self.history_len, snapshot);
-            machine.history_len = count;
-        }
-        Served { machine, refused }
+        self.history_len = push_record(store, self.history_len, snapshot);
+        Ok(())
     }
 
     // Return to the most recently saved state, which the store keeps.
-    pub fn undo(self, store: &[u8]) -> Served
-        ensures { result ≡ undone store.now self }
+    #[tactic(auto, unfolding(crate::specs::History::store_refusal, crate::specs::History::undo_refusal, crate::specs::History::undone))]
+    pub fn undo(&mut self, store: &[u8]) -> Result<(), Refusal>
+        ensures { answered result self.new ≡ undone store.now self.old }
     {
-        let state = self.state;
-        let counters = self.counters;
-        let core = Core {
-            state,
-            counters,
-            touched_len: self.touched_len,
-            trace_start: self.trace_start,
-            trace_len: self.trace_len,
-        };
-        let touched = self.touched;
-        let lengths = self.lengths;
-        let good = parts_ok(core, self.image_len, &touched, &lengths);
-        let tested = store_refusal(good, store.len(), self.history_len);
+        store_refusal(self.is_machine(), store.len(), self.history_len)?;
         let found = newest_record(store, self.history_len);
-        let refused = undo_refusal(tested, self.history_len, found.good);
-        let snapshot = found.snapshot;
+        undo_refusal(self.history_len, found.is_some())?;
+        if let Some(snapshot) = found {
+            self.restore(snapshot);
+        }
+        Ok(())
+    }
+
+    // The machine as the snapshot has it; the words that then differ from the image are the touched ones.
+    #[tactic(auto, unfolding(crate::specs::History::restored))]
+    fn restore(&mut self, snapshot: Snapshot)
+        ensures { self.new ≡ restored snapshot self.old }
+    {
         let memory = snapshot.memory;
         let registers = snapshot.registers;
-        let image = self.image;
-        let changed = differing_addresses(image, memory);
+        let changed = differing_addresses(self.image, memory);
         let addresses = changed.addresses;
-        let past = restored_state(snapshot, state);
-        let counts = restored_counters(snapshot, counters);
-        let count = one_less(self.history_len);
-        let mut machine = self;
-        if refused == 0 {
-            machine.touched = addresses;
-            machine.touched_len = changed.count;
-            machine.memory = memory;
-            machine.registers = registers;
-            machine.state = past;
-            machine.counters = counts;
-            machine.history_len = count;
-        }
-        Served { machine, refused }
+        self.touched = addresses;
+        self.touched_len = changed.count;
+        self.memory = memory;
+        self.registers = registers;
+        self.state = restored_state(snapshot, self.state);
+        self.counters = restored_counters(snapshot, self.counters);
+        self.history_len = self.history_len.saturating_sub(1);
     }
 }

@@ -14,11 +14,7 @@ fn text_at(at: usize, columns: &[u8; COLUMNS_LENGTH], lengths: &[u8; TRACE_LIMIT
     ensures { result ≡ text_at (texts_in columns.now) lengths.now at }
 {
     let mut bytes = [0u8; 32];
-    let mut i = 0;
-    while i < 32 {
-        bytes[i] = columns[at * 32 + i];
-        i += 1;
-    }
+    bytes.copy_from_slice(&columns[at * 32..at * 32 + 32]);
     Text {
         bytes,
         len: lengths[at],
@@ -55,15 +51,10 @@ pub(crate) fn newest_texts(
         × (length columns.now ≡ columns_length) × (length lengths.now ≡ trace_limit) }
     ensures { result ≡ texts_from (take_last n (live_texts ring.start ring.len (texts_in columns.now) lengths.now)) }
 {
+    let mut texts = [Text::from_bytes(b""); 7];
+    for i in 0..n {
+        texts[i] = newest_text(ring, n, i, columns, lengths);
+    }
     let count = n as u8;
-    let all = [
-        newest_text(ring, n, 0, columns, lengths),
-        newest_text(ring, n, 1, columns, lengths),
-        newest_text(ring, n, 2, columns, lengths),
-        newest_text(ring, n, 3, columns, lengths),
-        newest_text(ring, n, 4, columns, lengths),
-        newest_text(ring, n, 5, columns, lengths),
-        newest_text(ring, n, 6, columns, lengths),
-    ];
-    TransferPlan { texts: all, count }
+    TransferPlan { texts, count }
 }

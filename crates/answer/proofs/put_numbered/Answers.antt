@@ -4,18 +4,6 @@ use Rattle.isa.specs.Format.{decimal}
 use Rattle.answer.proofs.Lines.{few, count, numbered}
 use Rattle.answer.proofs.put_numbered.Goals as goal
 
-pub overflow_add-end : goal.overflow_add-end
-overflow_add-end c =
-    let d = c.decimal-count in
-    let s : d.result ≤ 20 = few c.args.n d.result (omega arith) d.ensures.len in
-    omega arith
-
-pub overflow_add-result : goal.overflow_add-result
-overflow_add-result c =
-    let d = c.decimal-count in
-    let s : d.result ≤ 20 = few c.args.n d.result (omega arith) d.ensures.len in
-    omega arith
-
 pub returns : goal.returns
 returns c =
     let a = c.args in

@@ -1,13 +1,10 @@
--- `encoding::get_digits` meets its contract. The invariant: the number so far is that of the first `i` bytes.
+-- The invariant: the number so far is that of the bytes so far.
 -- Assumes nothing.
 use mathlib.Core.Path.{◌≡◌}
-use Prim.Native.Nat.{◌-◌, ◌^◌, ◌≤◌, ◌<◌}
+use Prim.Native.Nat.{◌^◌, ◌<◌}
 use lib.ListN.{drop}
 use Rattle.encoding.specs.Bytes.{number}
 use Rattle.encoding.proofs.get_digits.Given as goal
 
-abbrev pub invariant-loop-i : goal.invariant-loop-i
-invariant-loop-i l = (l.i ≤ l.width) × ((l.read ≡ number l.i (drop l.at l.bytes)) × (l.read < 256 ^ l.i))
-
-abbrev pub decreases-loop-i : goal.decreases-loop-i
-decreases-loop-i l = l.width - l.i
+abbrev pub invariant-loop-byte : goal.invariant-loop-byte
+invariant-loop-byte l = (l.read ≡ number l.byte-index (drop l.at l.bytes)) × (l.read < 256 ^ l.byte-index)

@@ -1,8 +1,8 @@
--- `encoding::put_each` meets its contract. The invariant: what is left to write makes of the slice what is wanted.
+-- The invariant: what is left to write makes of the slice what is wanted.
 -- Assumes nothing.
 use mathlib.Core.Path.{◌≡◌}
 use mathlib.Core.List.{List}
-use Prim.Native.Nat.{ℕ, ◌+◌, ◌*◌, ◌-◌, ◌≤◌}
+use Prim.Native.Nat.{ℕ, ◌+◌, ◌*◌, ◌-◌}
 use lib.ListN.{length, get_or}
 use Rattle.encoding.specs.Bytes.{over, big_endian, big_endians, each_from}
 use Rattle.encoding.proofs.put_each.Given as goal
@@ -12,7 +12,4 @@ piece words j = big_endian 2 (get_or words j 0)
 
 abbrev pub invariant-loop-i : goal.invariant-loop-i
 invariant-loop-i l =
-    (l.i ≤ length l.words) × ((length l.out ≡ length l.initial.out) × (over l.out (l.at + 2 * l.i) (each_from (piece l.words) l.i (length l.words - l.i)) ≡ over l.initial.out l.at (big_endians 2 l.words)))
-
-abbrev pub decreases-loop-i : goal.decreases-loop-i
-decreases-loop-i l = length l.words - l.i
+    over l.out (l.at + 2 * l.i) (each_from (piece l.words) l.i (length l.words - l.i)) ≡ over l.initial.out l.at (big_endians 2 l.words)

@@ -1,13 +1,9 @@
 -- `encoding::put_number` meets its contract: it writes the digits where they fit, and else leaves the slice.
 -- Assumes nothing.
 use mathlib.Core.Path.{sym, ◌∙◌}
-use borrow.Author.Tests.{leb-true}
 use Rattle.encoding.specs.Bytes.{written}
 use Rattle.encoding.proofs.Numbers.{length-big_endian}
 use Rattle.encoding.proofs.put_number.Goals as goal
-
-pub put_digits-requires : goal.put_digits-requires
-put_digits-requires c = leb-true _ _ (sym c.inside.ensures ∙ c.if-inside.true)
 
 pub returns-then-inside : goal.returns-then-inside
 unfolding written

@@ -1,13 +1,9 @@
 -- `encoding::put_words` meets its contract: it writes the words where they fit, and else leaves the slice.
 -- Assumes nothing.
 use mathlib.Core.Path.{sym, ◌∙◌}
-use borrow.Author.Tests.{leb-true}
 use Rattle.encoding.specs.Bytes.{written}
 use Rattle.encoding.proofs.Numbers.{length-big_endians}
 use Rattle.encoding.proofs.put_words.Goals as goal
-
-pub put_each-requires : goal.put_each-requires
-put_each-requires c = leb-true _ _ (sym c.inside.ensures ∙ c.if-inside.true)
 
 pub returns-then-inside : goal.returns-then-inside
 unfolding written

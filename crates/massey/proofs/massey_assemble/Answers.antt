@@ -1,46 +1,29 @@
 -- Assumes nothing.
-use Prim.Native.Nat.{◌≤◌}
+use Prim.Native.Nat.{ℕ, ◌≤◌}
 use native.Mathlib.Omega.{arith}
-use borrow.Author.Rules.{rules}
-use mathlib.Core.Path.{sym, ap, ◌∙◌}
-use Rattle.encoding.specs.Answer.{Outcome, outcome, Told}
-use Rattle.assemble.specs.declared.Built.{Built}
+use mathlib.Core.Path.{◌≡◌, ap, ◌∙◌}
+use Rattle.encoding.specs.Answer.{Outcome, Told}
 use Rattle.assemble.specs.Answer as assembler
 use Rattle.assemble.proofs.Answers.{bytes_at_most}
 use Rattle.secret.specs.Widths.{report_limit}
-use Rattle.massey.specs.Calls.{assembled_outcome}
-use Rattle.massey.proofs.Answers.{numbered, small, length_read, minus_fits, refusal_read}
+use Rattle.massey.specs.Calls.{number_of, assembled_outcome}
+use Rattle.massey.proofs.Answers.{numbered, small, length_read, refusal_read}
 use Rattle.massey.proofs.massey_assemble.Goals as goal
+use Rattle.massey.proofs.massey_assemble.Goals.{In-Ok}
 
-abbrev told_of : Outcome Built → Outcome Told
-told_of o = outcome (assembler.told o.answer) o.buffer
+most : (c : In-Ok) → c.in-Ok.size ≤ report_limit
+most c =
+    let s = c.args in
+    let size : c.in-Ok.size ≡ (assembler.bytes_outcome s.text.now s.out.now).answer.length = ap (λ (o : Outcome Told). o.answer.length) c.in-Ok.ensures in
+    omega (arith, bytes_at_most s.text.now s.out.now)
 
 pub overflow_cast-result : goal.overflow_cast-result
-overflow_cast-result c =
-    let at_most : c.in-Written.n ≤ report_limit =
-    let s = c.args in
-    omega (arith, bytes_at_most s.text.now s.out.now (sym (ap (λ (o : Outcome Built). o.answer) (ap (λ (b : Built). outcome b c.assemble_bytes-built.new.out) (sym c.in-Written.is) ∙ c.assemble_bytes-built.ensures)))) in
-    small (at_most)
+overflow_cast-result c = small (most c)
 
-pub overflow_sub-result : goal.overflow_sub-result
-overflow_sub-result c =
-    let byte : c.in-Refused.n ≤ 255 =
-    search rules in
-    minus_fits (byte)
-
-pub returns-in-Written : goal.returns-in-Written
+pub returns-in-Ok : goal.returns-in-Ok
 unfolding assembled_outcome
-returns-in-Written c =
-    let at_most : c.in-Written.n ≤ report_limit =
-    let s = c.args in
-    omega (arith, bytes_at_most s.text.now s.out.now (sym (ap (λ (o : Outcome Built). o.answer) (ap (λ (b : Built). outcome b c.assemble_bytes-built.new.out) (sym c.in-Written.is) ∙ c.assemble_bytes-built.ensures)))) in
-    let t = (ap (λ (b : Built). outcome b c.assemble_bytes-built.new.out) (sym c.in-Written.is) ∙ c.assemble_bytes-built.ensures) in
-    numbered (length_read (at_most)) (ap told_of t)
+returns-in-Ok c = numbered (length_read (most c)) c.in-Ok.ensures
 
-pub returns-in-Refused : goal.returns-in-Refused
+pub returns-in-Err : goal.returns-in-Err
 unfolding assembled_outcome
-returns-in-Refused c =
-    let byte : c.in-Refused.n ≤ 255 =
-    search rules in
-    let t = (ap (λ (b : Built). outcome b c.assemble_bytes-built.new.out) (sym c.in-Refused.is) ∙ c.assemble_bytes-built.ensures) in
-    numbered (refusal_read (byte)) (ap told_of t)
+returns-in-Err c = numbered (refusal_read (omega (arith, c.number.type_inv)) ∙ ap (λ (n : ℕ). number_of n 0) c.number.ensures) c.in-Err.ensures

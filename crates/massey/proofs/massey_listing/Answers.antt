@@ -1,47 +1,29 @@
 -- Assumes nothing.
-use Prim.Native.Nat.{◌≤◌}
+use Prim.Native.Nat.{ℕ, ◌≤◌}
 use native.Mathlib.Omega.{arith}
-use borrow.Author.Rules.{rules}
-use mathlib.Core.Path.{◌≡◌, sym, ap, ◌∙◌}
-use Rattle.encoding.specs.Answer.{Outcome, outcome, Told}
-use Rattle.listing.specs.declared.Listed.{Listed}
+use mathlib.Core.Path.{◌≡◌, ap, ◌∙◌}
+use Rattle.encoding.specs.Answer.{Outcome, Told}
 use Rattle.listing.specs.Listing as listing
 use Rattle.listing.proofs.Listings.{bytes_at_most}
 use Rattle.secret.specs.Widths.{report_limit}
-use Rattle.massey.specs.Calls.{listing_outcome}
-use Rattle.massey.proofs.Answers.{numbered, small, length_read, minus_fits, refusal_read}
+use Rattle.massey.specs.Calls.{number_of, listing_outcome}
+use Rattle.massey.proofs.Answers.{numbered, small, length_read, refusal_read}
 use Rattle.massey.proofs.massey_listing.Goals as goal
+use Rattle.massey.proofs.massey_listing.Goals.{In-Ok}
+
+most : (c : In-Ok) → c.in-Ok.size ≤ report_limit
+most c =
+    let s = c.args in
+    let size : c.in-Ok.size ≡ (listing.bytes_outcome s.image.now s.out.now).answer.length = ap (λ (o : Outcome Told). o.answer.length) c.in-Ok.ensures in
+    omega (arith, bytes_at_most s.image.now s.out.now)
 
 pub overflow_cast-result : goal.overflow_cast-result
-overflow_cast-result c =
-    let listed : c.in-Written.n ≡ (listing.bytes_outcome c.args.image.now c.args.out.now).answer.length =
-    ap (λ (o : Outcome Told). o.answer.length) (ap (λ (l : Listed). outcome (listing.told l) c.list_bytes-listed.new.out) (sym c.in-Written.is) ∙ c.list_bytes-listed.ensures) in
-    let at_most : c.in-Written.n ≤ report_limit =
-    let s = c.args in
-    omega (arith, listed, bytes_at_most s.image.now s.out.now) in
-    small (at_most)
+overflow_cast-result c = small (most c)
 
-pub overflow_sub-result : goal.overflow_sub-result
-overflow_sub-result c =
-    let byte : c.in-Refused.n ≤ 255 =
-    search rules in
-    minus_fits (byte)
-
-pub returns-in-Written : goal.returns-in-Written
+pub returns-in-Ok : goal.returns-in-Ok
 unfolding listing_outcome
-returns-in-Written c =
-    let listed : c.in-Written.n ≡ (listing.bytes_outcome c.args.image.now c.args.out.now).answer.length =
-    ap (λ (o : Outcome Told). o.answer.length) (ap (λ (l : Listed). outcome (listing.told l) c.list_bytes-listed.new.out) (sym c.in-Written.is) ∙ c.list_bytes-listed.ensures) in
-    let at_most : c.in-Written.n ≤ report_limit =
-    let s = c.args in
-    omega (arith, listed, bytes_at_most s.image.now s.out.now) in
-    let t = (ap (λ (l : Listed). outcome (listing.told l) c.list_bytes-listed.new.out) (sym c.in-Written.is) ∙ c.list_bytes-listed.ensures) in
-    numbered (length_read (at_most)) t
+returns-in-Ok c = numbered (length_read (most c)) c.in-Ok.ensures
 
-pub returns-in-Refused : goal.returns-in-Refused
+pub returns-in-Err : goal.returns-in-Err
 unfolding listing_outcome
-returns-in-Refused c =
-    let byte : c.in-Refused.n ≤ 255 =
-    search rules in
-    let t = (ap (λ (l : Listed). outcome (listing.told l) c.list_bytes-listed.new.out) (sym c.in-Refused.is) ∙ c.list_bytes-listed.ensures) in
-    numbered (refusal_read (byte)) t
+returns-in-Err c = numbered (refusal_read (omega (arith, c.number.type_inv)) ∙ ap (λ (n : ℕ). number_of n 0) c.number.ensures) c.in-Err.ensures

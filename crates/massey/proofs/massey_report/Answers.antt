@@ -1,43 +1,29 @@
 -- Assumes nothing.
-use Prim.Native.Nat.{◌≤◌}
+use Prim.Native.Nat.{ℕ, ◌≤◌}
 use native.Mathlib.Omega.{arith}
-use borrow.Author.Rules.{rules}
-use mathlib.Core.Path.{sym, ap, ◌∙◌}
-use Rattle.encoding.specs.Answer.{Outcome, outcome, Told}
-use Rattle.secret.specs.declared.Reported.{Reported}
-use Rattle.secret.specs.Outcome as reporting
-use Rattle.secret.proofs.Programs.{bytes_at_most}
+use mathlib.Core.Path.{◌≡◌, ap, ◌∙◌}
+use Rattle.encoding.specs.Answer.{Outcome, Told}
+use Rattle.secret.specs.Program.{bytes_outcome}
 use Rattle.secret.specs.Widths.{report_limit}
-use Rattle.massey.specs.Calls.{reported_outcome}
-use Rattle.massey.proofs.Answers.{numbered, small, length_read, minus_fits, refusal_read}
+use Rattle.secret.proofs.Programs.{bytes_at_most}
+use Rattle.massey.specs.Calls.{number_of, reported_outcome}
+use Rattle.massey.proofs.Answers.{numbered, small, length_read, refusal_read}
 use Rattle.massey.proofs.massey_report.Goals as goal
+use Rattle.massey.proofs.massey_report.Goals.{In-Ok}
+
+most : (c : In-Ok) → c.in-Ok.size ≤ report_limit
+most c =
+    let s = c.args in
+    let size : c.in-Ok.size ≡ (bytes_outcome s.input.now s.out.now).answer.length = ap (λ (o : Outcome Told). o.answer.length) c.in-Ok.ensures in
+    omega (arith, bytes_at_most s.input.now s.out.now)
 
 pub overflow_cast-result : goal.overflow_cast-result
-overflow_cast-result c =
-    let at_most : c.in-Written.n ≤ report_limit =
-    let s = c.args in
-    let e = ap (λ (o : Outcome Told). o.answer.length) (ap (λ (r : Reported). outcome (reporting.told r) c.report_bytes-reported.new.out) (sym c.in-Written.is) ∙ c.report_bytes-reported.ensures) in
-    omega (arith, e, bytes_at_most s.input.now s.out.now) in
-    small (at_most)
+overflow_cast-result c = small (most c)
 
-pub overflow_sub-result : goal.overflow_sub-result
-overflow_sub-result c =
-    let byte : c.in-Refused.n ≤ 255 =
-    search rules in
-    minus_fits (byte)
-
-pub returns-in-Written : goal.returns-in-Written
+pub returns-in-Ok : goal.returns-in-Ok
 unfolding reported_outcome
-returns-in-Written c =
-    let at_most : c.in-Written.n ≤ report_limit =
-    let s = c.args in
-    let e = ap (λ (o : Outcome Told). o.answer.length) (ap (λ (r : Reported). outcome (reporting.told r) c.report_bytes-reported.new.out) (sym c.in-Written.is) ∙ c.report_bytes-reported.ensures) in
-    omega (arith, e, bytes_at_most s.input.now s.out.now) in
-    numbered (length_read (at_most)) (ap (λ (r : Reported). outcome (reporting.told r) c.report_bytes-reported.new.out) (sym c.in-Written.is) ∙ c.report_bytes-reported.ensures)
+returns-in-Ok c = numbered (length_read (most c)) c.in-Ok.ensures
 
-pub returns-in-Refused : goal.returns-in-Refused
+pub returns-in-Err : goal.returns-in-Err
 unfolding reported_outcome
-returns-in-Refused c =
-    let byte : c.in-Refused.n ≤ 255 =
-    search rules in
-    numbered (refusal_read (byte)) (ap (λ (r : Reported). outcome (reporting.told r) c.report_bytes-reported.new.out) (sym c.in-Refused.is) ∙ c.report_bytes-reported.ensures)
+returns-in-Err c = numbered (refusal_read (omega (arith, c.number.type_inv)) ∙ ap (λ (n : ℕ). number_of n 0) c.number.ensures) c.in-Err.ensures

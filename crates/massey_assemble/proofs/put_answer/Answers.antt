@@ -6,20 +6,20 @@ use Rattle.massey_assemble.proofs.put_answer.Goals as goal
 pub returns-then-not-whole : goal.returns-then-not-whole
 returns-then-not-whole c =
     let s = c.args in
-    rw (c.if-not-whole.true) (not_whole s.text.now s.out.now c.put_refusal.ensures)
+    rw (c.if-not-whole.true) (not_whole s.text.now s.out.now (rw c.number.ensures at c.put_refusal.ensures))
 
 pub returns-then-text-gt-TEXT : goal.returns-then-text-gt-TEXT
 returns-then-text-gt-TEXT c =
     let s = c.args in
-    rw (c.if-not-whole.false) (too_long s.text.now s.out.now (omega arith) c.put_refusal-then-text-gt-TEXT.ensures)
+    rw (c.if-not-whole.false) (too_long s.text.now s.out.now (omega arith) (rw c.number-then-text-gt-TEXT.ensures at c.put_refusal-then-text-gt-TEXT.ensures))
 
-pub returns-in-Written : goal.returns-in-Written
-returns-in-Written c =
+pub returns-in-Ok : goal.returns-in-Ok
+returns-in-Ok c =
     let s = c.args in
-    rw (c.if-not-whole.false) (written-answer s.text.now s.out.now c.in-Written.size (omega arith) c.in-Written.ensures)
+    rw (c.if-not-whole.false) (written-answer s.text.now s.out.now c.in-Ok.size (omega arith) c.in-Ok.ensures)
 
-pub returns-in-Refused : goal.returns-in-Refused
-returns-in-Refused c =
+pub returns-in-Err : goal.returns-in-Err
+returns-in-Err c =
     let s = c.args in
     rw (c.if-not-whole.false)
-    (refused-answer s.text.now s.out.now c.in-Refused.number (omega arith) c.in-Refused.ensures c.put_refusal-in-Refused.ensures)
+    (refused-answer s.text.now s.out.now c.in-Err.refusal (omega arith) c.in-Err.ensures (rw c.number-in-Err.ensures at c.put_refusal-in-Err.ensures))

@@ -8,12 +8,12 @@ returns-then-not-whole c =
     let s = c.args in
     c.put_refusal.ensures ∙ failed_answer s.input.now s.out.now c.if-not-whole.true
 
-pub returns-in-Written : goal.returns-in-Written
-returns-in-Written c =
+pub returns-in-Ok : goal.returns-in-Ok
+returns-in-Ok c =
     let s = c.args in
-    written-answer s.input.now s.out.now c.if-not-whole.false c.in-Written.ensures
+    written-answer s.input.now s.out.now c.if-not-whole.false c.in-Ok.ensures
 
-pub returns-in-Refused : goal.returns-in-Refused
-returns-in-Refused c =
+pub returns-in-Err : goal.returns-in-Err
+returns-in-Err c =
     let s = c.args in
-    c.put_refusal-in-Refused.ensures ∙ refused-answer s.input.now s.out.now c.if-not-whole.false c.in-Refused.ensures
+    c.put_refusal-in-Err.ensures ∙ rw c.number.ensures (refused-answer s.input.now s.out.now c.if-not-whole.false c.in-Err.refusal c.in-Err.ensures)

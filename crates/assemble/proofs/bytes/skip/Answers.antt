@@ -1,29 +1,22 @@
-use native.Mathlib.Nat.{sub_self}
-use native.Mathlib.Omega.{arith}
-use mathlib.Core.Path.{◌≡◌, sym, ◌∙◌}
-use mathlib.Core.Bool.{false}
-use lib.ListN.{get_or, drop_of_length-le}
-use lib.Seq.{drop-cons}
-use Rattle.assemble.specs.Reading.{passing}
-use Rattle.assemble.proofs.Steps.{pass_more, pass_done}
-use borrow.Author.Rules.{rules}
+use Rattle.std.proofs.Common.{ℕ, not, ◌≡◌, ◌∙◌, ◌-◌, refl, length, take, drop}
+use Rattle.std.proofs.lemmas.Fn.{says_at}
+use Rattle.std.proofs.lemmas.Iterator.{YieldsList-from_slice}
+use Rattle.std.proofs.lemmas.Iterator.Search.{position_from_yields_List}
+use Rattle.assemble.proofs.Steps.{tail_whole, stopped, all_passed}
 use Rattle.assemble.proofs.bytes.skip.Goals as goal
 
-pub loop-i-init : goal.loop-i-init
-loop-i-init c = (search rules, search rules, rw sub_self)
-
-pub returns-then-not-passes : goal.returns-then-not-passes
-returns-then-not-passes c =
+pub returns-in-Some : goal.returns-in-Some
+returns-in-Some g c = λ f h.
     let a = c.args in
-    let e : passing a.kind (get_or a.s.now c.loop-i.i 0) ≡ false = sym c.passes.ensures ∙ c.if-not-passes.true in
-    pass_done a.kind a.s.now a.at c.loop-i.i (rw (drop-cons a.s.now c.loop-i.i 0 (omega arith), e)) c.loop-i.invariant
+    let whole : c.iter.result.rest.now ≡ take (length a.s.now - a.at) (drop a.at a.s.now) = cc in
+    let found = position_from_yields_List (λ (b : ℕ). not (f b)) _ _ c.position.result c.position.ensures.ran (YieldsList-from_slice (drop a.at a.s.now) (whole ∙ tail_whole a.s.now a.at))
+    (λ x b q k. (g.met.F.Fn.1.step_stays a.ends (x, tt) b q k, h x.now b (says_at g.F.Fn ((g.met.F.FnMut.1.post_iff a.ends (x, tt) b).1 (q, k)) refl))) in
+    stopped f a.s.now a.at c.position.result c.requires.inside found c.in-Some.n c.in-Some.is
 
-pub loop-i-preserved : goal.loop-i-preserved
-loop-i-preserved c =
+pub returns-in-None : goal.returns-in-None
+returns-in-None g c = λ f h.
     let a = c.args in
-    pass_more (passing a.kind) a.s.now a.at c.loop-i.i (omega arith) (sym c.passes.ensures ∙ c.if-not-passes.false) c.loop-i.invariant
-
-pub returns : goal.returns
-returns c =
-    let a = c.args in
-    pass_done a.kind a.s.now a.at c.loop-i.i (rw (drop_of_length-le a.s.now {i = c.loop-i.i} (omega arith))) c.loop-i.invariant
+    let whole : c.iter.result.rest.now ≡ take (length a.s.now - a.at) (drop a.at a.s.now) = cc in
+    let found = position_from_yields_List (λ (b : ℕ). not (f b)) _ _ c.position.result c.position.ensures.ran (YieldsList-from_slice (drop a.at a.s.now) (whole ∙ tail_whole a.s.now a.at))
+    (λ x b q k. (g.met.F.Fn.1.step_stays a.ends (x, tt) b q k, h x.now b (says_at g.F.Fn ((g.met.F.FnMut.1.post_iff a.ends (x, tt) b).1 (q, k)) refl))) in
+    all_passed f a.s.now a.at c.position.result c.requires.inside found c.in-None.is

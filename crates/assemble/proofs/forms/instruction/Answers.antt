@@ -1,35 +1,33 @@
 use native.Mathlib.Omega.{arith}
-use mathlib.Core.Path.{refl, sym, ◌∙◌}
-use lib.ListN.{drop_of_length-le}
+use mathlib.Core.Path.{◌≡◌, sym, ◌∙◌}
+use lib.ListN.{get_or, drop_of_length-le}
 use Rattle.assemble.specs.Grammar.{forms, tried}
-use Rattle.assemble.proofs.Steps.{tried-turn, tried_other, tried-empty}
-use borrow.Author.Rules.{rules}
+use Rattle.assemble.proofs.Steps.{tried-turn, tried_other, tried-empty, first_some, first_none}
 use Rattle.assemble.proofs.forms.instruction.Goals as goal
+use Rattle.assemble.proofs.forms.instruction.Goals.{then-first-head+else-is_some, else-first-head}
 
-pub returns-then-s-eq0 : goal.returns-then-s-eq0
-returns-then-s-eq0 c = sym (tried-empty c.args.s.now c.if-s-eq0.true)
+pub returns-in_err-head : goal.returns-in_err-head
+returns-in_err-head c = c.from_residual.ensures ∙ sym (tried-empty c.args.s.now (omega (arith, c.in_err-head.ensures.item.3)))
 
-pub bounds-s-0 : goal.bounds-s-0
-bounds-s-0 c = let z = c.if-s-eq0.false in omega arith
-
-pub loop-f-init : goal.loop-f-init
-loop-f-init c = (search rules, refl)
-
-pub returns-then-n : goal.returns-then-n
-returns-then-n c =
+pub returns-then-is_some : goal.returns-then-is_some
+returns-then-is_some c =
     let s = c.args.s.now in
-    sym (tried-turn s c.loop-f.f c.by_form-n.result (omega arith) c.by_form-n.ensures ∙ rw c.if-n.true) ∙ c.loop-f.invariant.1
-
-pub loop-f-preserved-else-n : goal.loop-f-preserved-else-n
-loop-f-preserved-else-n c =
-    let s = c.args.s.now in
-    (omega arith, sym (rw c.if-n.false at (tried-turn s c.loop-f.f c.by_form-n.result (omega arith) c.by_form-n.ensures)) ∙ c.loop-f.invariant.1)
+    let f = c.loop-f.f in
+    let n = c.by_form-read.result in
+    sym (tried-turn s f n (omega arith) c.by_form-read.ensures ∙ first_some n _ (sym c.is_some.ensures ∙ c.if-is_some.true)) ∙ c.loop-f.invariant
 
 pub loop-f-preserved : goal.loop-f-preserved
 loop-f-preserved c =
     let s = c.args.s.now in
-    (omega arith, sym (tried_other s c.loop-f.f (omega arith) c.if-g-head.false) ∙ c.loop-f.invariant.1)
+    let f = c.loop-f.f in
+    let head : c.in_ok-head.field-0.now ≡ get_or s 0 0 = c.in_ok-head.ensures.item.4 (omega arith) 0 in
+    elim c.if-first-head.branch [
+      | then-first-head+else-is_some w ↦
+          let n = w.by_form-read.result in
+          sym (tried-turn s f n (omega arith) w.by_form-read.ensures ∙ first_none n _ (sym w.is_some.ensures ∙ w.if-is_some.false)) ∙ c.loop-f.invariant
+      | else-first-head w ↦ sym (tried_other s f (omega arith) (λ e. w.if-first-head.false (e ∙ sym head))) ∙ c.loop-f.invariant
+    ]
 
 pub returns : goal.returns
 unfolding tried forms
-returns c = rw (drop_of_length-le forms {i = c.loop-f.f} (omega arith)) at c.loop-f.invariant.1
+returns c = rw (drop_of_length-le forms {i = c.loop-f.f} (omega arith)) at c.loop-f.invariant

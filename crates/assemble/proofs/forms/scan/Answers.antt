@@ -1,44 +1,49 @@
 use native.Mathlib.Omega.{arith}
-use mathlib.Core.Path.{◌≡◌, refl, sym, ◌∙◌}
-use mathlib.Core.Bool.{true, false}
-use borrow.Author.Tests.{not-true, not-false}
+use mathlib.Core.Path.{sym, ◌∙◌}
+use borrow.Author.Rules.{rules}
 use lib.ListN.{drop_of_length-le}
 use lib.Seq.{drop-cons}
+use Rattle.std.specs.Prelude.{Some, None}
+use Rattle.assemble.specs.Grammar.{is_space}
+use Rattle.assemble.specs.Reading.{Passed}
 use Rattle.assemble.proofs.Steps.{scan-turn, scan_last}
-use borrow.Author.Rules.{rules}
 use Rattle.assemble.proofs.forms.scan.Goals as goal
 
-pub loop-i-init : goal.loop-i-init
-loop-i-init c = (search rules, search rules, omega arith, refl)
+pub step-requires : goal.step-requires
+step-requires c = let v = c.loop-b.invariant in (v.inside, omega (arith, v.light, c.requires))
 
-pub step-n-requires : goal.step-n-requires
-step-n-requires c = (c.loop-i.invariant.1, omega (arith, c.loop-i.invariant.2, c.requires))
-
-pub returns-then-not-n : goal.returns-then-not-n
-returns-then-not-n c =
+pub returns-in_err-spot : goal.returns-in_err-spot
+returns-in_err-spot c =
     let a = c.args in
-    let n = c.step-n in
-    let o : n.result.ok ≡ false = not-true _ c.if-not-n.true in
-    rw o at (sym (scan-turn a.pattern.now a.s.now c.loop-i.i c.loop-i.at c.loop-i.w c.loop-i.r n.result (omega arith) n.ensures) ∙ c.loop-i.invariant.3)
+    let l = c.loop-b in
+    c.from_residual.ensures ∙ sym (scan-turn a.pattern.now a.s.now l.b-index l.spot None c.loop-b-test.true c.in_err-spot.ensures) ∙ l.invariant.reads
 
-pub loop-i-preserved : goal.loop-i-preserved
-loop-i-preserved c =
+pub loop-b-preserved : goal.loop-b-preserved
+loop-b-preserved c =
     let a = c.args in
-    let n = c.step-n in
-    let o : n.result.ok ≡ true = not-false _ c.if-not-n.false in
-    (omega arith, n.ensures.inside, omega (arith, n.ensures.light, c.loop-i.invariant.2), rw o at (sym (scan-turn a.pattern.now a.s.now c.loop-i.i c.loop-i.at c.loop-i.w c.loop-i.r n.result (omega arith) n.ensures) ∙ c.loop-i.invariant.3))
+    let l = c.loop-b in
+    let n = c.in_ok-spot in
+    record {
+      inside = n.ensures.inside;
+      light = omega (arith, n.ensures.light, l.invariant.light);
+      reads = sym (scan-turn a.pattern.now a.s.now l.b-index l.spot (Some n.spot) c.loop-b-test.true n.ensures) ∙ l.invariant.reads;
+    }
 
-pub skip-e-requires : goal.skip-e-requires
-skip-e-requires c = c.loop-i.invariant.1
+pub skip-end-requires : goal.skip-end-requires
+skip-end-requires c = search rules
 
-pub returns-then-e-s : goal.returns-then-e-s
-returns-then-e-s c =
+pub returns-then-end-s : goal.returns-then-end-s
+returns-then-end-s c =
     let a = c.args in
-    let e = sym (scan_last a.pattern.now a.s.now c.loop-i.i c.loop-i.at c.loop-i.w c.loop-i.r c.skip-e.result (omega arith) c.skip-e.ensures) ∙ c.loop-i.invariant.3 in
-    rw (drop-cons a.s.now c.skip-e.result 0 c.if-e-s.true) at e
+    let l = c.loop-b in
+    let p : Passed is_space a.s.now l.spot.at c.skip-end.result = c.skip-end.ensures is_space (λ b r e. search rules) in
+    let e = sym (scan_last a.pattern.now a.s.now l.b-index l.spot c.skip-end.result (omega arith) p) ∙ l.invariant.reads in
+    rw (drop-cons a.s.now c.skip-end.result 0 c.if-end-s.true) at e
 
 pub returns : goal.returns
 returns c =
     let a = c.args in
-    let e = sym (scan_last a.pattern.now a.s.now c.loop-i.i c.loop-i.at c.loop-i.w c.loop-i.r c.skip-e.result (omega arith) c.skip-e.ensures) ∙ c.loop-i.invariant.3 in
-    rw (drop_of_length-le a.s.now {i = c.skip-e.result} c.if-e-s.false) at e
+    let l = c.loop-b in
+    let p : Passed is_space a.s.now l.spot.at c.skip-end.result = c.skip-end.ensures is_space (λ b r e. search rules) in
+    let e = sym (scan_last a.pattern.now a.s.now l.b-index l.spot c.skip-end.result (omega arith) p) ∙ l.invariant.reads in
+    rw (drop_of_length-le a.s.now {i = c.skip-end.result} c.if-end-s.false) at e

@@ -1,37 +1,26 @@
 use native.Mathlib.Omega.{arith}
-use mathlib.Core.Path.{refl, ◌∙◌}
-use Rattle.assemble.proofs.Linking.{plain_turn, place-turn, resolved-all}
-use borrow.Author.Rules.{rules}
+use mathlib.Core.Path.{◌∙◌}
+use Rattle.assemble.proofs.Steps.{passed_on}
+use Rattle.assemble.proofs.Linking.{entry_turn, entry_missing, entries_end}
 use Rattle.assemble.proofs.links.resolve.Goals as goal
 
-pub loop-i-init : goal.loop-i-init
-loop-i-init c = record { inside = search rules; room = refl; done = refl; zeros = refl; lost = refl }
-
-pub overflow_cast-out : goal.overflow_cast-out
-overflow_cast-out c =
-    record { fits = (plain_turn c.args.words.now c.args.keys.now c.args.refers.now c.loop-i.out c.loop-i.i c.requires c.loop-i.invariant c.loop-i-test.true c.if-key-eq0.true).0 }
-
-pub loop-i-preserved-then-key-eq0 : goal.loop-i-preserved-then-key-eq0
-loop-i-preserved-then-key-eq0 c =
-    (plain_turn c.args.words.now c.args.keys.now c.args.refers.now c.loop-i.out c.loop-i.i c.requires c.loop-i.invariant c.loop-i-test.true c.if-key-eq0.true).1
-
-pub returns-then-address-keys : goal.returns-then-address-keys
-returns-then-address-keys c =
-    c.refused.ensures ∙ (place-turn c.args.words.now c.args.keys.now c.args.refers.now c.loop-i.out c.loop-i.i c.requires c.loop-i.invariant c.place-address.result c.loop-i-test.true c.if-key-eq0.false c.place-address.ensures).2 c.if-address-keys.true
+pub returns-in_err-address : goal.returns-in_err-address
+returns-in_err-address c =
+    let e = c.in_err-address.field-0.0 in
+    passed_on c.from_residual.result e c.from_residual.ensures.1 ∙ entry_missing c.args.entries.now c.loop-i.out c.loop-i.i c.requires c.loop-i.invariant e c.loop-i-test.true c.in_err-address.ensures
 
 pub overflow_add-out : goal.overflow_add-out
 overflow_add-out c =
-    let m = (place-turn c.args.words.now c.args.keys.now c.args.refers.now c.loop-i.out c.loop-i.i c.requires c.loop-i.invariant c.place-address.result c.loop-i-test.true c.if-key-eq0.false c.place-address.ensures).0 in
+    let m = (entry_turn c.args.entries.now c.loop-i.out c.loop-i.i c.requires c.loop-i.invariant c.in_ok-address.address c.loop-i-test.true c.in_ok-address.ensures).0 in
     record { fits = omega (arith, m) }
 
-pub overflow_cast-out-in-loop-i : goal.overflow_cast-out-in-loop-i
-overflow_cast-out-in-loop-i c =
-    record { fits = (place-turn c.args.words.now c.args.keys.now c.args.refers.now c.loop-i.out c.loop-i.i c.requires c.loop-i.invariant c.place-address.result c.loop-i-test.true c.if-key-eq0.false c.place-address.ensures).0 }
+pub overflow_cast-out : goal.overflow_cast-out
+overflow_cast-out c =
+    record { fits = (entry_turn c.args.entries.now c.loop-i.out c.loop-i.i c.requires c.loop-i.invariant c.in_ok-address.address c.loop-i-test.true c.in_ok-address.ensures).0 }
 
 pub loop-i-preserved : goal.loop-i-preserved
 loop-i-preserved c =
-    (place-turn c.args.words.now c.args.keys.now c.args.refers.now c.loop-i.out c.loop-i.i c.requires c.loop-i.invariant c.place-address.result c.loop-i-test.true c.if-key-eq0.false c.place-address.ensures).1 c.if-address-keys.false
+    (entry_turn c.args.entries.now c.loop-i.out c.loop-i.i c.requires c.loop-i.invariant c.in_ok-address.address c.loop-i-test.true c.in_ok-address.ensures).1
 
 pub returns : goal.returns
-returns c =
-    resolved-all c.args.words.now c.args.keys.now c.args.refers.now c.loop-i.out c.loop-i.i c.requires c.loop-i.invariant (omega (arith, c.loop-i-test.false))
+returns c = entries_end c.args.entries.now c.loop-i.out c.loop-i.i c.requires c.loop-i.invariant c.loop-i-test.false

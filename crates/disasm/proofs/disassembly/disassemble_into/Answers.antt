@@ -3,32 +3,20 @@ use native.Mathlib.Omega.{arith}
 use Prim.Native.Nat.{◌+◌, ◌≤◌, ◌<◌}
 use mathlib.Core.Path.{◌≡◌, sym, ap, ◌∙◌}
 use borrow.Author.Tests.{leb-true, leb-false}
-use borrow.Author.Rules.{rules}
 use lib.ListN.{length}
-use Rattle.isa.specs.declared.text.Text.{Text}
-use Rattle.isa.specs.Text.{text, padded}
+use Rattle.isa.specs.Text.{Text, fixed_text, padded}
 use Rattle.encoding.proofs.Written.{written_cut, part_written}
 use Rattle.disasm.specs.Disassembly.{disassemble_text}
 use Rattle.disasm.proofs.Texts.{disassembly_padded}
 use Rattle.disasm.proofs.disassembly.disassemble_into.Goals as goal
 
 pub returns-then-not-inside : goal.returns-then-not-inside
-unfolding text
+unfolding fixed_text
 returns-then-not-inside c =
     let s = c.args in
     let n : length (padded 32 (disassemble_text s.word)) ≡ 32 = disassembly_padded s.word in
     let h : length s.out.now < s.at + 32 = leb-false (s.at + 32) (length s.out.now) (sym c.inside.ensures ∙ c.if-not-inside.true) in
-    (ap (λ (t : Text). t.len) c.disassemble-t.ensures, sym (written_cut s.out.now s.at (padded 32 (disassemble_text s.word)) (omega arith)))
-
-pub overflow_add-end : goal.overflow_add-end
-overflow_add-end c =
-    let h : c.args.at + 32 ≤ length c.args.out.now = leb-true (c.args.at + 32) (length c.args.out.now) (sym c.inside.ensures ∙ c.if-not-inside.false) in
-    search rules
-
-pub slice_bounds-put_disassembly-end : goal.slice_bounds-put_disassembly-end
-slice_bounds-put_disassembly-end c =
-    let h : c.args.at + 32 ≤ length c.args.out.now = leb-true (c.args.at + 32) (length c.args.out.now) (sym c.inside.ensures ∙ c.if-not-inside.false) in
-    search rules
+    (ap (λ (t : Text). t.len) c.disassemble.ensures, sym (written_cut s.out.now s.at (padded 32 (disassemble_text s.word)) (omega arith)))
 
 pub returns : goal.returns
 returns c =

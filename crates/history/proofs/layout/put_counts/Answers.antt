@@ -18,7 +18,7 @@ returns c =
     let b = r in
     let s = b in
     let a = s.args in
-    rw (p.put_number-2.ensures, q.put_number.ensures, r.put_bytes.ensures, b.bytes-bytes.ensures)
+    rw (p.put_number-2.ensures, q.put_number.ensures, r.put_bytes.ensures, b.fault_bytes-bytes.ensures)
     (writtens_eq a.part.now fault_kind_at
     ((fault_width, fault_bytes a.fault) ∷ (counter_width, big_endian counter_width a.instructions) ∷ (counter_width, big_endian counter_width a.micro_operations) ∷ [])
     (length-fault a.fault, (length-big_endian counter_width a.instructions, (length-big_endian counter_width a.micro_operations, tt)))

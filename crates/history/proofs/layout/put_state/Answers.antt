@@ -4,8 +4,9 @@ use native.Mathlib.Omega.{arith}
 use Rattle.encoding.specs.Bytes.{big_endian}
 use Rattle.encoding.proofs.Written.{writtens_eq}
 use Rattle.encoding.proofs.Numbers.{length-big_endian}
+use Rattle.std.specs.Int.{from_bool}
 use Rattle.control.specs.Address.{address_width}
-use Rattle.history.specs.Record.{byte_width, word_width, mar_at, bit, state_bytes}
+use Rattle.history.specs.Record.{byte_width, word_width, mar_at, state_bytes}
 use Rattle.history.proofs.layout.put_state.Goals as goal
 
 pub shape_of-part : goal.shape_of-part
@@ -30,8 +31,8 @@ returns c =
     let s = v in
     let a = s.args in
     let k = a.control in
-    rw (p.put_number-6.ensures, p.halted_bit.ensures, q.put_number-5.ensures, r.put_number-4.ensures, t.put_number-3.ensures, u.put_number-2.ensures, v.put_number.ensures)
+    rw (p.put_number-6.ensures, p.from.ensures, q.put_number-5.ensures, r.put_number-4.ensures, t.put_number-3.ensures, u.put_number-2.ensures, v.put_number.ensures)
     (writtens_eq a.part.now mar_at
-    ((address_width, big_endian address_width k.mar) ∷ (word_width, big_endian word_width k.mdr) ∷ (byte_width, big_endian byte_width k.instruction_address) ∷ (byte_width, big_endian byte_width k.tick) ∷ (byte_width, big_endian byte_width k.execute_ticks) ∷ (byte_width, big_endian byte_width (bit k.halted)) ∷ [])
-    (length-big_endian address_width k.mar, (length-big_endian word_width k.mdr, (length-big_endian byte_width k.instruction_address, (length-big_endian byte_width k.tick, (length-big_endian byte_width k.execute_ticks, (length-big_endian byte_width (bit k.halted), tt))))))
+    ((address_width, big_endian address_width k.mar) ∷ (word_width, big_endian word_width k.mdr) ∷ (byte_width, big_endian byte_width k.instruction_address) ∷ (byte_width, big_endian byte_width k.tick) ∷ (byte_width, big_endian byte_width k.execute_ticks) ∷ (byte_width, big_endian byte_width (from_bool k.halted)) ∷ [])
+    (length-big_endian address_width k.mar, (length-big_endian word_width k.mdr, (length-big_endian byte_width k.instruction_address, (length-big_endian byte_width k.tick, (length-big_endian byte_width k.execute_ticks, (length-big_endian byte_width (from_bool k.halted), tt))))))
     (omega (arith, s.requires)))

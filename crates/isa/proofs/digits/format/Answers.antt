@@ -1,3 +1,4 @@
+-- Assumes nothing.
 use native.Mathlib.Omega.{arith}
 use mathlib.Core.Path.{◌≡◌, refl}
 use lib.ListN.{length}
@@ -9,21 +10,20 @@ use Rattle.isa.proofs.digits.format.Goals as goal
 
 pub loop-i-init : goal.loop-i-init
 unfolding padded
-loop-i-init c = (refl, omega arith)
+loop-i-init c = refl
 
 pub loop-i-preserved : goal.loop-i-preserved
 loop-i-preserved c =
-    let a = c in
-    let d = a in
-    let s = d.args in
+    let s = c.args in
+    let l = c.loop-i in
     let xs = fill s.word s.template.now in
-    let l : length xs ≡ length s.template.now = length-fill s.word s.template.now in
-    (rw (c.filled.ensures, d.digits_of-digits.ensures, ← (get_d_fill s.word s.template.now a.loop-i.i)) (filled_next 32 xs a.loop-i.i (omega arith) (omega arith) a.loop-i.invariant.0), omega arith)
+    let n : length xs ≡ length s.template.now = length-fill s.word s.template.now in
+    rw (c.filled.ensures, c.digits_of-digits.ensures, ← (get_d_fill s.word s.template.now l.i)) (filled_next 32 xs l.i (omega arith) (omega arith) l.invariant)
 
 pub returns : goal.returns
 returns c =
-    let a = c in
-    let s = a.args in
+    let s = c.args in
     let xs = fill s.word s.template.now in
-    let l : length xs ≡ length s.template.now = length-fill s.word s.template.now in
-    filled_text xs a.least-n.result a.loop-i.i (omega arith) (rw l a.least-n.ensures) a.loop-i.invariant.0
+    let e : c.loop-i.i ≡ c.min-n.result = omega arith in
+    let n : length xs ≡ length s.template.now = length-fill s.word s.template.now in
+    filled_text 32 xs 32 c.min-n.result (omega (arith, c.min-n.ensures)) (rw e at c.loop-i.invariant)

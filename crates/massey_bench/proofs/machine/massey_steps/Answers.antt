@@ -1,27 +1,27 @@
 use mathlib.Core.Path.{ap, ◌∙◌}
 use Rattle.vm.specs.declared.step.InstructionReport.{InstructionReport}
-use Rattle.vm.specs.Calls.{view_of, is_machine}
-use Rattle.vm.specs.StepCalls.{Effect}
+use Rattle.vm.specs.Machine.{Machine}
+use Rattle.vm.specs.Calls.{view_of, is_machine, Effect}
 use Rattle.massey_bench.specs.Machine.{times, made_by, steps_count}
 use Rattle.massey_bench.proofs.Machines.{start_ok, after-step}
 use Rattle.massey_bench.proofs.Loops.{at_start, turned, at_end_lem}
 use Rattle.massey_bench.proofs.machine.massey_steps.Invariants.{move}
 use Rattle.massey_bench.proofs.machine.massey_steps.Goals as goal
 
-pub loop-i-init : goal.loop-i-init
-loop-i-init c =
+pub loop-init : goal.loop-init
+loop-init c =
     let a = c.args in
     (at_start move a.n _, ap is_machine c.started-m.ensures ∙ start_ok a.image.now)
 
-pub loop-i-preserved : goal.loop-i-preserved
-loop-i-preserved c =
-    let l = c.loop-i in
-    let e = c.step_instruction-a.ensures in
-    (turned move _ _ c.loop-i-test.true l.invariant.0 (ap (λ (o : Effect InstructionReport). o.machine) e.answer ∙ after-step l.m l.invariant.1), e.lasting l.invariant.1)
+pub loop-preserved : goal.loop-preserved
+loop-preserved c =
+    let l = c.loop in
+    let e = c.step_instruction.ensures in
+    (turned move _ _ c.loop-test.true l.invariant.0 (ap (λ (o : Effect InstructionReport Machine). o.machine) e.answer ∙ after-step l.m l.invariant.1), e.lasting l.invariant.1)
 
 pub returns : goal.returns
 unfolding steps_count
 returns c =
-    let l = c.loop-i in
+    let l = c.loop in
     let n = c.args.n in
-    ap made_by (at_end_lem move n _ c.loop-i-test.false l.invariant.0) ∙ ap (λ s. made_by (times n move (view_of s))) c.started-m.ensures
+    ap made_by (at_end_lem move n _ c.loop-test.false l.invariant.0) ∙ ap (λ s. made_by (times n move (view_of s))) c.started-m.ensures

@@ -1,5 +1,4 @@
 -- The invariant: what is left to be done of the machine that is there.
-use Prim.Native.Nat.{◌-◌}
 use mathlib.Core.Path.{◌≡◌}
 use mathlib.Core.Bool.{true}
 use Rattle.vm.specs.Machine.{Machine}
@@ -12,8 +11,5 @@ use Rattle.massey_bench.proofs.machine.massey_steps.Given as goal
 abbrev pub move : Machine → Machine
 move = moving (λ v. (step_instruction v).machine)
 
-abbrev pub invariant-loop-i : goal.invariant-loop-i
-invariant-loop-i l = Going move l.n l.i (view_of l.initial.m) (view_of l.m) × (is_machine l.m ≡ true)
-
-abbrev pub decreases-loop-i : goal.decreases-loop-i
-decreases-loop-i l = l.n - l.i
+abbrev pub invariant-loop : goal.invariant-loop
+invariant-loop l = Going move l.n l.counter (view_of l.initial.m) (view_of l.m) × (is_machine l.m ≡ true)

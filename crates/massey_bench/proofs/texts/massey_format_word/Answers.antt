@@ -1,6 +1,6 @@
 -- The text of the word, field by field.
 use mathlib.Core.Path.{ap}
-use Rattle.isa.specs.declared.text.Text.{Text}
+use Rattle.isa.specs.Text.{Text}
 use Rattle.massey_bench.proofs.texts.massey_format_word.Goals as goal
 
 pub returns : goal.returns

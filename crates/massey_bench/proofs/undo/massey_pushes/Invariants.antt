@@ -1,6 +1,6 @@
 -- The invariant: what is left to be saved of the machine that is there, in the store as it is then.
 -- Assumes nothing.
-use Prim.Native.Nat.{ℕ, ◌-◌}
+use Prim.Native.Nat.{ℕ}
 use mathlib.Core.Path.{◌≡◌}
 use mathlib.Core.List.{List}
 use lib.ListN.{length}
@@ -12,8 +12,5 @@ use Rattle.massey_bench.proofs.undo.massey_pushes.Given as goal
 abbrev pub held : List ℕ → Code → Kept
 held d m = record { store = d; machine = m }
 
-abbrev pub invariant-loop-i : goal.invariant-loop-i
-invariant-loop-i l = (length l.store ≡ length l.initial.store) × Going push l.n l.i (held l.initial.store l.initial.m) (held l.store l.m)
-
-abbrev pub decreases-loop-i : goal.decreases-loop-i
-decreases-loop-i l = l.n - l.i
+abbrev pub invariant-loop : goal.invariant-loop
+invariant-loop l = (length l.store ≡ length l.initial.store) × Going push l.n l.counter (held l.initial.store l.initial.m) (held l.store l.m)

@@ -1,6 +1,6 @@
 -- The invariant: what is left to be undone of the machine that is there.
 -- Assumes nothing.
-use Prim.Native.Nat.{ℕ, ◌-◌}
+use Prim.Native.Nat.{ℕ}
 use mathlib.Core.List.{List}
 use Rattle.vm.specs.declared.machine.Machine.{Machine as Code}
 use Rattle.vm.specs.History.{undone}
@@ -10,8 +10,5 @@ use Rattle.massey_bench.proofs.undo.massey_undos.Given as goal
 abbrev pub back : List ℕ → Code → Code
 back d m = (undone d m).machine
 
-abbrev pub invariant-loop-i : goal.invariant-loop-i
-invariant-loop-i l = Going (back l.store) l.n l.i l.initial.m l.m
-
-abbrev pub decreases-loop-i : goal.decreases-loop-i
-decreases-loop-i l = l.n - l.i
+abbrev pub invariant-loop : goal.invariant-loop
+invariant-loop l = Going (back l.store) l.n l.counter l.initial.m l.m

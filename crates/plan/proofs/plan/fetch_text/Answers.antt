@@ -1,6 +1,7 @@
 -- Assumes nothing.
 use Prim.Native.String.{String}
 use mathlib.Core.Path.{refl, ap, ◌∙◌}
+use native.Mathlib.Omega.{arith}
 use Rattle.isa.specs.Text.{ascii, text}
 use Rattle.plan.specs.Plan.{fetch_text}
 use Rattle.plan.proofs.Plans.{from_three}
@@ -21,5 +22,4 @@ returns-in-2 c = rw c.in-2.is c.mdr_to_ir_text.ensures
 pub returns-in_default : goal.returns-in_default
 unfolding fetch_text
 returns-in_default c =
-    let h = c.in_default.in_default-own.rest in
-    c.next_pc_text.ensures ∙ ap (λ (s : String). text (ascii s)) (from_three fetch_text (λ n. refl) c.args.tick h.0.0.1 h.0.1 h.1)
+    c.next_pc_text.ensures ∙ ap (λ (s : String). text (ascii s)) (from_three fetch_text (λ n. refl) c.args.tick (omega arith))

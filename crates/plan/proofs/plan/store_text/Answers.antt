@@ -2,6 +2,7 @@
 use Prim.Native.String.{String}
 use mathlib.Core.List.{map}
 use mathlib.Core.Path.{refl, ap, ◌∙◌}
+use native.Mathlib.Omega.{arith}
 use Rattle.isa.specs.Text.{ascii, text}
 use Rattle.isa.specs.Format.{fill_byte}
 use Rattle.plan.specs.Plan.{store_text}
@@ -20,5 +21,4 @@ pub returns-in_default : goal.returns-in_default
 unfolding store_text
 returns-in_default c =
     let a = c.args in
-    let h = c.in_default.in_default-own.rest in
-    c.mdr_to_memory_text.ensures ∙ ap (λ (s : String). text (map (fill_byte a.digits) (ascii s))) (from_two store_text (λ n. refl) a.n h.0.1 h.1)
+    c.mdr_to_memory_text.ensures ∙ ap (λ (s : String). text (map (fill_byte a.digits) (ascii s))) (from_two store_text (λ n. refl) a.n (omega arith))

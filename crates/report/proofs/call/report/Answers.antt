@@ -1,88 +1,81 @@
--- `report` meets its contract, by its tests.
+-- What is answered, by the tests of the run and of the buffer.
 -- Assumes nothing.
-use mathlib.Core.Path.{◌≡◌, sym, ap, ◌∙◌}
-use lib.ListN.{length}
-use Rattle.isa.specs.Sizes.{memory_words, register_count}
+use native.Mathlib.Omega.{arith}
+use mathlib.Core.Path.{◌≡◌, refl, sym, ap, ◌∙◌}
+use borrow.Author.Rules.{rules}
+use Rattle.std.proofs.lemmas.Result.{err_from_is_err_and}
 use Rattle.marks.specs.Owners.{hidden_from}
 use Rattle.marks.specs.Total.{hidden_count}
-use Rattle.vm.specs.Guard.{GuardedAnswer, guarded_answer_of, served_answer}
+use Rattle.vm.specs.Guard.{GuardedAnswer, served_answer, refused_answer, guarded_answer}
 use Rattle.vm.proofs.GuardedStarts.{answer_served, answer-refusal}
 use Rattle.guard.specs.Input.{Input, input_from, input_refusal}
 use Rattle.secret.specs.Forms.{end_from}
 use Rattle.secret.proofs.Accepts.{input_accepted}
 use Rattle.secret.proofs.Calls.{reportable, call-refused, call-short, call_served}
-use borrow.Author.Rules.{rules}
+use Rattle.secret.proofs.Wholes.{whole_served}
 use Rattle.report.proofs.call.report.Goals as goal
 
-pub returns-then-refused-ne0 : goal.returns-then-refused-ne0
-returns-then-refused-ne0 c =
-    let i : Input = input_from c.args.image.now c.args.marks.now c.args.budget.0 c.args.breakpoints.now c.args.clearance in
-    let number : c.guarded_run-run.result.refused ≡ input_refusal i =
-    ap (λ (a : GuardedAnswer). a.refused) c.guarded_run-run.ensures.answer ∙ answer-refusal i in
-    let g = c in
-    let a = g.args in
-    call-refused i a.out.now number c.if-refused-ne0.true
+-- what the run of an input answers
+module _ (i : Input) {a : GuardedAnswer} (e : a ≡ guarded_answer i) where
+  number : a.refused ≡ input_refusal i
+  number = ap (λ (x : GuardedAnswer). x.refused) e ∙ answer-refusal i
+
+  module _ (z : 0 ≡ a.refused) where
+    accepted : input_refusal i ≡ 0
+    accepted = sym (z ∙ number)
+
+    answer : a ≡ served_answer i
+    answer = e ∙ answer_served i accepted
+
+pub returns-in_err-run : goal.returns-in_err-run
+unfolding refused_answer
+returns-in_err-run c =
+    let a = c.args in
+    let i = input_from a.image.now a.marks.now a.budget.0 a.breakpoints.now a.clearance in
+    let p = err_from_is_err_and c.from_residual.result c.from_residual.ensures.1 in
+    rw (p.1, p.2) (call-refused i a.out.now c.in_err-run.field-0.0 (number i c.in_err-run.ensures.answer))
 
 pub returns-then-out-lt-REPORT_LENGTH : goal.returns-then-out-lt-REPORT_LENGTH
 returns-then-out-lt-REPORT_LENGTH c =
-    let i : Input = input_from c.args.image.now c.args.marks.now c.args.budget.0 c.args.breakpoints.now c.args.clearance in
-    let number : c.guarded_run-run.result.refused ≡ input_refusal i =
-    ap (λ (a : GuardedAnswer). a.refused) c.guarded_run-run.ensures.answer ∙ answer-refusal i in
-    let g = c in
-    let s = c in
-    call-short i s.args.out.now (sym number ∙ c.if-refused-ne0.false) c.if-out-lt-REPORT_LENGTH.true
+    let a = c.args in
+    let i = input_from a.image.now a.marks.now a.budget.0 a.breakpoints.now a.clearance in
+    call-short i a.out.now (accepted i c.in_ok-run.ensures.answer refl) c.if-out-lt-REPORT_LENGTH.true
 
-pub slice_bounds-write_report-end : goal.slice_bounds-write_report-end
-slice_bounds-write_report-end c =
-    let sixteen : length c.guarded_run-run.result.marks.registers ≡ register_count =
-    search rules in
-    sym (sixteen)
+pub put_input-requires : goal.put_input-requires
+put_input-requires c =
+    let a = c.args in
+    let i = input_from a.image.now a.marks.now a.budget.0 a.breakpoints.now a.clearance in
+    let s = input_accepted i (accepted i c.in_ok-run.ensures.answer refl) in
+    (omega (arith, s.few), s.full)
 
-pub slice_bounds-write_report-end-2 : goal.slice_bounds-write_report-end-2
-slice_bounds-write_report-end-2 c =
-    let many : length c.guarded_run-run.result.marks.memory ≡ memory_words =
-    search rules in
-    sym (many)
+pub overflow_add-at : goal.overflow_add-at
+overflow_add-at c =
+    let a = c.args in
+    let i = input_from a.image.now a.marks.now a.budget.0 a.breakpoints.now a.clearance in
+    let s = input_accepted i (accepted i c.in_ok-run.ensures.answer refl) in
+    omega (arith, s.few)
 
-pub write_report-n-requires : goal.write_report-n-requires
-write_report-n-requires c =
-    let i : Input = input_from c.args.image.now c.args.marks.now c.args.budget.0 c.args.breakpoints.now c.args.clearance in
-    let sixteen : length c.guarded_run-run.result.marks.registers ≡ register_count =
-    search rules in
-    let many : length c.guarded_run-run.result.marks.memory ≡ memory_words =
-    search rules in
-    let number : c.guarded_run-run.result.refused ≡ input_refusal i =
-    ap (λ (a : GuardedAnswer). a.refused) c.guarded_run-run.ensures.answer ∙ answer-refusal i in
-    let answer : c.guarded_run-run.result.refused ≡ 0 → guarded_answer_of c.guarded_run-run.result ≡ served_answer i =
-    (λ z. c.guarded_run-run.ensures.answer ∙ answer_served i (sym number ∙ z)) in
-    let t = c in
-    let g = t in
-    let s = c in
-    let z = t.if-refused-ne0.false in
-    let A = input_accepted i (sym number ∙ z) in
-    let e = answer z in
-    record {
-      room = t.if-out-lt-REPORT_LENGTH.false;
-      marks = A.full;
-      breaks = A.few;
-      registers = sixteen;
-      memory = many;
-      total = ap (λ (a : GuardedAnswer). a.hidden_total) e ∙ ap (λ (a : GuardedAnswer). hidden_count (hidden_from s.args.clearance) a.guarded.marks.memory) (sym e);
-      machine = reportable g.guarded_run-run.result.machine g.guarded_run-run.ensures.machine i (ap (λ (a : GuardedAnswer). a.guarded.machine) e);
-    }
+pub put_run-requires : goal.put_run-requires
+put_run-requires c =
+    let a = c.args in
+    let i = input_from a.image.now a.marks.now a.budget.0 a.breakpoints.now a.clearance in
+    let r = c.in_ok-run.run' in
+    let s = input_accepted i (accepted i c.in_ok-run.ensures.answer refl) in
+    let e = answer i c.in_ok-run.ensures.answer refl in
+    let m = reportable r.machine c.in_ok-run.ensures.machine i (search rules) (search rules) (ap (λ (a : GuardedAnswer). a.guarded.machine) e) in (
+      omega (arith, s.few, m.trace, m.touched),
+      m,
+      ap (λ (a : GuardedAnswer). a.hidden_total) e ∙ ap (λ (x : GuardedAnswer). hidden_count (hidden_from a.clearance) x.guarded.marks.memory) (sym e),
+    )
 
 pub returns : goal.returns
 returns c =
-    let i : Input = input_from c.args.image.now c.args.marks.now c.args.budget.0 c.args.breakpoints.now c.args.clearance in
-    let number : c.guarded_run-run.result.refused ≡ input_refusal i =
-    ap (λ (a : GuardedAnswer). a.refused) c.guarded_run-run.ensures.answer ∙ answer-refusal i in
-    let answer : c.guarded_run-run.result.refused ≡ 0 → guarded_answer_of c.guarded_run-run.result ≡ served_answer i =
-    (λ z. c.guarded_run-run.ensures.answer ∙ answer_served i (sym number ∙ z)) in
-    let p = c in
-    let t = p in
-    let g = t in
-    let s = c in
-    let z = t.if-refused-ne0.false in
-    let r = g.guarded_run-run.result in
-    let e = end_from r.stop r.machine r.marks.registers r.marks.memory r.marks.mdr in
-    call_served i s.args.out.now e (ap (λ (e : GuardedAnswer). e.stop) (answer z)) (ap (λ (e : GuardedAnswer). e.guarded) (answer z)) (sym number ∙ z) t.if-out-lt-REPORT_LENGTH.false p.write_report-n.ensures
+    let a = c.args in
+    let i = input_from a.image.now a.marks.now a.budget.0 a.breakpoints.now a.clearance in
+    let r = c.in_ok-run.run' in
+    let z = accepted i c.in_ok-run.ensures.answer refl in
+    let s = input_accepted i z in
+    let e = answer i c.in_ok-run.ensures.answer refl in
+    let m = reportable r.machine c.in_ok-run.ensures.machine i (search rules) (search rules) (ap (λ (a : GuardedAnswer). a.guarded.machine) e) in
+    call_served i a.out.now (end_from r.stop r.machine r.marks.registers r.marks.memory r.marks.mdr) (ap (λ (e : GuardedAnswer). e.stop) e) (ap (λ (e : GuardedAnswer). e.guarded) e) z c.if-out-lt-REPORT_LENGTH.false
+    (whole_served i r.stop r.machine m r.marks.registers r.marks.memory r.marks.mdr a.out.now (omega (arith, s.few)) c.put_run.ensures.0 (c.put_run.ensures.1 ∙ rw c.put_input.ensures))

@@ -7,7 +7,5 @@ use Rattle.report.proofs.records.put_byte.Goals as goal
 
 pub returns : goal.returns
 returns c =
-    let p = c in
-    let s = p in
-    let a = s.args in
-    p.put_bytes.ensures ∙ written-fits a.out.now a.at (a.kind ∷ a.byte ∷ []) s.requires
+    let a = c.args in
+    c.put_bytes.ensures ∙ written-fits a.out.now a.at (a.kind ∷ a.byte ∷ []) c.requires

@@ -14,13 +14,9 @@ use Rattle.report.proofs.records.put_control.Goals as goal
 pub returns : goal.returns
 unfolding control_bytes big_endian
 returns c =
-    let p = c in
-    let q = p in
-    let r = q in
-    let s = r in
-    let a = s.args in
-    rw (p.put_bytes-2.ensures, q.put_number.ensures, r.put_bytes.ensures)
+    let a = c.args in
+    rw (c.put_bytes-2.ensures, c.put_number.ensures, c.put_bytes.ensures)
     (writtens_eq a.out.now a.at
     ((3, a.pc ∷ big_endian value_width a.ir) ∷ (address_width, address_bytes a.mar) ∷ (3, a.mark ∷ big_endian value_width a.mdr) ∷ [])
     (refl, (length-big_endian address_width a.mar, (refl, tt)))
-    (omega (arith, s.requires)))
+    (omega (arith, c.requires)))

@@ -12,15 +12,10 @@ use Rattle.report.proofs.records.put_counts.Goals as goal
 pub returns : goal.returns
 unfolding count_bytes
 returns c =
-    let p = c in
-    let q = p in
-    let r = q in
-    let t = r in
-    let s = t in
-    let a = s.args in
+    let a = c.args in
     let k = a.counters in
-    rw (p.put_number-4.ensures, q.put_number-3.ensures, r.put_number-2.ensures, t.put_number.ensures)
+    rw (c.put_number-4.ensures, c.put_number-3.ensures, c.put_number-2.ensures, c.put_number.ensures)
     (writtens_eq a.out.now a.at
     ((number_width, big_endian number_width k.instructions) ∷ (number_width, big_endian number_width k.micro_operations) ∷ (number_width, big_endian number_width k.bus_reads) ∷ (number_width, big_endian number_width k.bus_writes) ∷ [])
     (length-big_endian number_width k.instructions, (length-big_endian number_width k.micro_operations, (length-big_endian number_width k.bus_reads, (length-big_endian number_width k.bus_writes, tt))))
-    (omega (arith, s.requires)))
+    (omega (arith, c.requires)))

@@ -17,17 +17,11 @@ use Rattle.report.proofs.records.put_end.Goals as goal
 pub returns : goal.returns
 unfolding end_record
 returns c =
-    let p = c in
-    let q = p in
-    let r = q in
-    let t = r in
-    let v = t in
-    let s = v in
-    let a = s.args in
+    let a = c.args in
     let k = a.state.control in
     let d = shown (hidden_from a.clearance) a.mark k.mdr in
-    rw (p.put_fault.ensures, q.put_counts.ensures, r.put_control.ensures, v.shown_value-mdr.ensures, t.put_byte.ensures)
+    rw (c.put_fault.ensures, c.put_counts.ensures, c.put_control.ensures, c.shown_value-mdr.ensures, c.put_byte.ensures)
     (overs_eq a.out.now a.at
     ((kind_width + stop_width, 8 ∷ a.stop ∷ []) ∷ (control_length, control_bytes k.pc k.ir k.mar a.mark d) ∷ (counts_length, count_bytes a.counters) ∷ (fault_width, fault_bytes a.state.fault) ∷ [])
     (refl, (length-control k.pc k.ir k.mar a.mark d, (length-counts a.counters, (length-fault a.state.fault, tt))))
-    (omega (arith, s.requires)))
+    (omega (arith, c.requires)))

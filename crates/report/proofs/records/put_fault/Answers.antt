@@ -11,8 +11,5 @@ use Rattle.report.proofs.records.put_fault.Goals as goal
 pub returns : goal.returns
 unfolding fault_bytes big_endian
 returns c =
-    let p = c in
-    let f = p in
-    let s = f in
-    let a = s.args in
-    p.put_bytes.ensures ∙ ap (λ (l : List ℕ). written a.out.now a.at l) f.bytes-bytes.ensures ∙ written-fits a.out.now a.at (fault_bytes a.fault) s.requires
+    let a = c.args in
+    c.put_bytes.ensures ∙ ap (λ (l : List ℕ). written a.out.now a.at l) c.fault_bytes-bytes.ensures ∙ written-fits a.out.now a.at (fault_bytes a.fault) c.requires

@@ -13,15 +13,9 @@ use Rattle.report.proofs.records.put_head.Goals as goal
 pub returns : goal.returns
 unfolding head_record big_endian
 returns c =
-    let b = c in
-    let p = b in
-    let q = p in
-    let r = q in
-    let t = r in
-    let s = t in
-    let a = s.args in
-    rw (b.put_bytes.ensures, p.put_number-4.ensures, q.put_number-3.ensures, r.put_number-2.ensures, t.put_number.ensures)
+    let a = c.args in
+    rw (c.put_bytes.ensures, c.put_number-4.ensures, c.put_number-3.ensures, c.put_number-2.ensures, c.put_number.ensures)
     (writtens_eq a.out.now 0
     ((kind_width, big_endian kind_width 9) ∷ (count_width, big_endian count_width a.len) ∷ (number_width, big_endian number_width a.budget.0) ∷ (count_width, big_endian count_width a.count) ∷ (mark_width, a.clearance ∷ []) ∷ [])
     (length-big_endian kind_width 9, (length-big_endian count_width a.len, (length-big_endian number_width a.budget.0, (length-big_endian count_width a.count, (refl, tt)))))
-    (omega (arith, s.requires)))
+    (omega (arith, c.requires)))

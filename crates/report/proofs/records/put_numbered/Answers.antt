@@ -16,14 +16,11 @@ unfolding big_endian
 returns c =
     let byte : c.args.kind < 256 =
     search rules in
-    let p = c in
-    let q = p in
-    let s = q in
-    let a = s.args in
+    let a = c.args in
     let b : a.kind % 256 ≡ a.kind = omega (arith, byte) in
-    rw (p.put_number-2.ensures, q.put_number.ensures)
+    rw (c.put_number-2.ensures, c.put_number.ensures)
     (writtens_eq a.out.now a.at
     ((kind_width, big_endian kind_width a.kind) ∷ (a.width, big_endian a.width a.number) ∷ [])
     (length-big_endian kind_width a.kind, (length-big_endian a.width a.number, tt))
-    (omega (arith, s.requires))
+    (omega (arith, c.requires))
     ∙ ap (λ (k : ℕ). over a.out.now a.at (k ∷ big_endian a.width a.number)) b)

@@ -15,12 +15,9 @@ use Rattle.report.proofs.records.put_start.Goals as goal
 pub returns : goal.returns
 unfolding start_record
 returns c =
-    let p = c in
-    let q = p in
-    let s = q in
-    let a = s.args in
-    rw (p.put_text.ensures, q.put_value.ensures)
+    let a = c.args in
+    rw (c.put_text.ensures, c.put_value.ensures)
     (overs_eq a.out.now a.at
     ((word_length, value_record (hidden_from a.clearance) 2 (address_bytes a.address) a.mark a.word) ∷ (text_width, shown_text (hidden_from a.clearance) a.mark a.word) ∷ [])
     (length-value (hidden_from a.clearance) 2 (address_bytes a.address) a.mark a.word (length-big_endian address_width a.address), (length-shown (hidden_from a.clearance) a.mark a.word, tt))
-    (omega (arith, s.requires)))
+    (omega (arith, c.requires)))

@@ -7,14 +7,8 @@ use Rattle.report.proofs.records.put_text.Goals as goal
 
 pub returns-then-not-hidden : goal.returns-then-not-hidden
 returns-then-not-hidden c =
-    let p = c in
-    let h = p in
-    let s = h in
-    text_open (hidden_from s.args.clearance) s.args.out.now s.args.at s.args.mark s.args.word s.requires (sym h.is_hidden-hidden.ensures ∙ p.if-not-hidden.true) p.disassemble_into.ensures.1
+    text_open (hidden_from c.args.clearance) c.args.out.now c.args.at c.args.mark c.args.word c.requires (sym c.is_hidden-hidden.ensures ∙ c.if-not-hidden.true) c.disassemble_into.ensures.1
 
 pub returns : goal.returns
 returns c =
-    let p = c in
-    let h = p in
-    let s = h in
-    text-hidden (hidden_from s.args.clearance) s.args.out.now s.args.at s.args.mark s.args.word s.requires (sym h.is_hidden-hidden.ensures ∙ p.if-not-hidden.false) p.put_bytes.ensures
+    text-hidden (hidden_from c.args.clearance) c.args.out.now c.args.at c.args.mark c.args.word c.requires (sym c.is_hidden-hidden.ensures ∙ c.if-not-hidden.false) c.put_bytes.ensures

@@ -15,14 +15,9 @@ use Rattle.report.proofs.records.put_traced.Goals as goal
 pub returns : goal.returns
 unfolding trace_bytes big_endian
 returns c =
-    let p = c in
-    let q = p in
-    let r = q in
-    let t = r in
-    let s = t in
-    let a = s.args in
-    rw (p.put_bytes-2.ensures, q.put_bytes.ensures, r.put_number-2.ensures, t.put_number.ensures)
+    let a = c.args in
+    rw (c.put_bytes-2.ensures, c.put_bytes.ensures, c.put_number-2.ensures, c.put_number.ensures)
     (writtens_eq a.out.now a.at
     ((kind_width, big_endian kind_width 4) ∷ (number_width, big_endian number_width a.number) ∷ (place_width + phase_width, a.address ∷ a.phase ∷ []) ∷ (text_width, a.text.now) ∷ [])
-    (length-big_endian kind_width 4, (length-big_endian number_width a.number, (refl, (s.requires.1, tt))))
-    (omega (arith, s.requires)))
+    (length-big_endian kind_width 4, (length-big_endian number_width a.number, (refl, (c.requires.1, tt))))
+    (omega (arith, c.requires)))

@@ -1,37 +1,22 @@
-use Prim.Native.Nat.{◌+◌, ◌*◌}
-use native.Mathlib.Nat.{add-zero, sub-zero}
+-- Assumes nothing.
 use native.Mathlib.Omega.{arith}
-use mathlib.Core.Path.{refl, sym, ◌∙◌}
+use mathlib.Core.Path.{refl}
 use lib.ListN.{length}
-use Rattle.encoding.proofs.Written.{each_turn, each_done}
 use Rattle.secret.specs.Widths.{break_length}
 use Rattle.secret.specs.Report.{each_record}
-use borrow.Author.Rules.{rules}
+use Rattle.report.proofs.Turns.{rows_turn, rows_last}
 use Rattle.report.proofs.rows.put_breaks.Invariants.{piece}
 use Rattle.report.proofs.rows.put_breaks.Goals as goal
 
-pub loop-i-init : goal.loop-i-init
-loop-i-init c = (search rules, refl, rw (add-zero, sub-zero))
-
 pub loop-i-preserved : goal.loop-i-preserved
 loop-i-preserved c =
-    let p = c in
-    let a = p in
-    let l = a.loop-i in
-    let s = a.args in
-    let x = s.list.now in (
-      omega arith,
-      p.put_byte.auto.out ∙ l.invariant.1,
-      rw p.put_byte.ensures (each_turn break_length (piece x) l.out s.at l.i (length x) refl (omega arith) (omega arith) ∙ l.invariant.2),
-    )
-
-pub shape_of-out : goal.shape_of-out
-shape_of-out c = c.loop-i.invariant.1
+    let a = c.args in
+    let l = c.loop-i in
+    rows_turn break_length (piece a.list.now) (length a.list.now) a.out.now a.at l.i l.out refl (omega arith) c.requires l.invariant c.put_byte.ensures
 
 pub returns : goal.returns
 unfolding each_record
 returns c =
+    let a = c.args in
     let l = c.loop-i in
-    let s = c.args in
-    let x = s.list.now in
-    sym (each_done (piece x) l.out (s.at + break_length * l.i) l.i (length x) (omega arith)) ∙ l.invariant.2
+    rows_last break_length (piece a.list.now) (length a.list.now) a.out.now a.at l.i l.out (omega arith) l.invariant

@@ -1,43 +1,30 @@
-use Prim.Native.Nat.{◌+◌, ◌*◌}
-use native.Mathlib.Nat.{add-zero, sub-zero}
+-- Assumes nothing.
 use native.Mathlib.Omega.{arith}
-use mathlib.Core.Path.{refl, sym, ◌∙◌}
+use mathlib.Core.Path.{◌∙◌}
 use lib.ListN.{get_or}
-use Rattle.encoding.proofs.Written.{each_turn, each_done}
+use Rattle.isa.specs.Sizes.{memory_words}
 use Rattle.vm.specs.Calls.{image_words}
 use Rattle.marks.specs.Owners.{hidden_from}
 use Rattle.secret.specs.Widths.{head_length, start_length}
 use Rattle.secret.specs.Report.{start_records}
 use Rattle.secret.proofs.Accepts.{words_at}
 use Rattle.secret.proofs.Shows.{length-start}
-use borrow.Author.Rules.{rules}
+use Rattle.report.proofs.Turns.{rows_turn, rows_last}
 use Rattle.report.proofs.rows.put_starts.Invariants.{piece}
 use Rattle.report.proofs.rows.put_starts.Goals as goal
 
-pub loop-i-init : goal.loop-i-init
-loop-i-init c = (search rules, refl, rw (add-zero, sub-zero))
-
 pub loop-i-preserved : goal.loop-i-preserved
 loop-i-preserved c =
-    let p = c in
-    let w = p in
-    let a = w in
-    let l = a.loop-i in
-    let s = a.args in
-    let v = s.image.now in
-    let m = s.marks.now in (
-      omega arith,
-      p.put_start.auto.out ∙ l.invariant.1,
-      rw (p.put_start.ensures, w.word_at-word.ensures, ← words_at v l.i (omega arith))
-          (each_turn start_length (piece s.clearance v m) l.out head_length l.i 256 (length-start (hidden_from s.clearance) l.i (get_or m l.i 0) (get_or (image_words v) l.i 0)) (omega arith) (omega arith) ∙ l.invariant.2),
-    )
-
-pub shape_of-out : goal.shape_of-out
-shape_of-out c = c.loop-i.invariant.1
+    let a = c.args in
+    let v = a.image.now in
+    let m = a.marks.now in
+    let l = c.loop-i in
+    rows_turn start_length (piece a.clearance v m) memory_words a.out.now head_length l.i l.out (length-start (hidden_from a.clearance) l.i (get_or m l.i 0) (get_or (image_words v) l.i 0)) (omega arith) (omega arith) l.invariant
+    (c.put_start.ensures ∙ rw (c.word_at-word.ensures, ← words_at v l.i (omega arith)))
 
 pub returns : goal.returns
 unfolding start_records
 returns c =
+    let a = c.args in
     let l = c.loop-i in
-    let s = c.args in
-    sym (each_done (piece s.clearance s.image.now s.marks.now) l.out (head_length + start_length * l.i) l.i 256 (omega arith)) ∙ l.invariant.2
+    rows_last start_length (piece a.clearance a.image.now a.marks.now) memory_words a.out.now head_length l.i l.out (omega arith) l.invariant

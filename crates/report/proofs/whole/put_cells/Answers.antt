@@ -1,7 +1,10 @@
--- `put_cells` meets its contract: the words lie behind the registers.
+-- The words lie behind the registers.
 -- Assumes nothing.
+use mathlib.Core.Path.{◌≡◌}
 use mathlib.Core.List.{[], ◌∷◌}
 use native.Mathlib.Omega.{arith}
+use borrow.Author.Rules.{rules}
+use lib.ListN.{length}
 use Rattle.marks.specs.Owners.{hidden_from}
 use Rattle.encoding.proofs.Written.{overs_eq}
 use Rattle.isa.specs.Sizes.{memory_words, register_count}
@@ -13,16 +16,14 @@ use Rattle.report.proofs.whole.put_cells.Goals as goal
 
 pub returns : goal.returns
 returns c =
-    let p = c in
-    let q = p in
-    let s = q in
-    let a = s.args in
-    let r = a.registers.now in
-    let k = a.register_marks.now in
-    let m = a.memory.now in
-    let l = a.memory_marks.now in
-    rw (p.put_values-2.ensures, q.put_values.ensures, s.requires.1, s.requires.3)
+    let a = c.args in
+    let hid = hidden_from a.clearance in
+    let m = a.run.now.machine in
+    let k = a.run.now.marks in
+    let registers : length m.registers ≡ register_count = search rules in
+    let memory : length m.memory ≡ memory_words = search rules in
+    rw (c.put_values-2.ensures, c.put_values.ensures, registers, memory)
     (overs_eq a.out.now a.at
-    ((registers_length, value_records (hidden_from a.clearance) 5 index_bytes register_count r k) ∷ (words_length, value_records (hidden_from a.clearance) 6 address_bytes memory_words m l) ∷ [])
-    (length_values (hidden_from a.clearance) 5 index_width register_count r k, (length_values (hidden_from a.clearance) 6 address_width memory_words m l, tt))
-    (omega (arith, s.requires)))
+    ((registers_length, value_records hid 5 index_bytes register_count m.registers k.registers) ∷ (words_length, value_records hid 6 address_bytes memory_words m.memory k.memory) ∷ [])
+    (length_values hid 5 index_width register_count m.registers k.registers, (length_values hid 6 address_width memory_words m.memory k.memory, tt))
+    (omega (arith, c.requires)))

@@ -1,4 +1,4 @@
--- `put_input` meets its contract: its pieces lie one behind the other.
+-- The pieces lie one behind the other.
 -- Assumes nothing.
 use Prim.Native.Nat.{◌*◌}
 use mathlib.Core.List.{[], ◌∷◌}
@@ -15,15 +15,12 @@ use Rattle.report.proofs.whole.put_input.Goals as goal
 
 pub returns : goal.returns
 returns c =
-    let p = c in
-    let q = p in
-    let r = q in
-    let s = r in
-    let a = s.args in
+    let a = c.args in
+    let hid = hidden_from a.clearance in
     let image = a.image.now in
     let breaks = a.breakpoints.now in
-    rw (p.put_breaks.ensures, q.put_starts.ensures, r.put_head.ensures)
+    rw (c.put_breaks.ensures, c.put_starts.ensures, c.put_head.ensures)
     (overs_eq a.out.now 0
-    ((head_length, head_record (length image) a.budget.0 (length breaks) a.clearance) ∷ (starts_length, start_records (hidden_from a.clearance) (image_words image) a.marks.now) ∷ (break_length * length breaks, each_record break_record breaks) ∷ [])
-    (length_head (length image) a.budget.0 (length breaks) a.clearance, (length-starts (hidden_from a.clearance) (image_words image) a.marks.now, (length-breaks breaks, tt)))
-    (omega (arith, s.requires)))
+    ((head_length, head_record (length image) a.budget.0 (length breaks) a.clearance) ∷ (starts_length, start_records hid (image_words image) a.marks.now) ∷ (break_length * length breaks, each_record break_record breaks) ∷ [])
+    (length_head (length image) a.budget.0 (length breaks) a.clearance, (length-starts hid (image_words image) a.marks.now, (length-breaks breaks, tt)))
+    (omega (arith, c.requires)))

@@ -1,9 +1,12 @@
--- `put_last` meets its contract: the end lies behind the addresses, and the total behind the end.
+-- The end lies behind the addresses, and the total behind the end.
 -- Assumes nothing.
 use Prim.Native.Nat.{◌*◌}
+use mathlib.Core.Path.{◌≡◌, ◌∙◌}
 use mathlib.Core.List.{[], ◌∷◌}
 use native.Mathlib.Omega.{arith}
-use lib.ListN.{length}
+use lib.ListN.{length, take}
+use lib.Seq.{length-take-le}
+use Rattle.guard.specs.Stops.{stop_number}
 use Rattle.marks.specs.Owners.{hidden_from}
 use Rattle.encoding.proofs.Written.{overs_eq}
 use Rattle.secret.specs.Widths.{touched_length, end_length, hidden_length}
@@ -14,14 +17,14 @@ use Rattle.report.proofs.whole.put_last.Goals as goal
 pub returns : goal.returns
 unfolding hidden_record
 returns c =
-    let p = c in
-    let q = p in
-    let r = q in
-    let s = r in
-    let a = s.args in
-    let t = a.touched.now in
-    rw (p.put_numbered.ensures, q.put_end.ensures, r.put_touches.ensures)
+    let a = c.args in
+    let hid = hidden_from a.clearance in
+    let r = a.run.now in
+    let m = r.machine in
+    let t = take m.touched_len m.touched in
+    let count : length t ≡ m.touched_len = length-take-le m.touched_len m.touched (omega (arith, c.requires.1.touched, c.requires.1.places)) in
+    rw (c.put_numbered.ensures, c.put_end.ensures, c.put_touches.ensures, c.number.ensures)
     (overs_eq a.out.now a.at
-    ((touched_length * length t, each_record touched_record t) ∷ (end_length, end_record (hidden_from a.clearance) a.stop a.state a.counters a.mark) ∷ (hidden_length, hidden_record a.hidden_total) ∷ [])
-    (length_touches t, (length_end (hidden_from a.clearance) a.stop a.state a.counters a.mark, (length-hidden a.hidden_total, tt)))
-    (omega (arith, s.requires)))
+    ((touched_length * m.touched_len, each_record touched_record t) ∷ (end_length, end_record hid (stop_number r.stop) m.state m.counters r.marks.mdr) ∷ (hidden_length, hidden_record r.hidden_total) ∷ [])
+    (length_touches t ∙ rw count, (length_end hid (stop_number r.stop) m.state m.counters r.marks.mdr, (length-hidden r.hidden_total, tt)))
+    (omega (arith, c.requires)))

@@ -20,16 +20,16 @@ loop-stop-init c =
     let z : a.budget.0 - 0 ≡ a.budget.0 = omega arith in
     (ap (λ (j : ℕ). guarded_run (hidden_from a.clearance) a.breakpoints.now 0 j (guarded_on (parts a.from a.memory.now a.registers.now a.touched.now a.columns.now a.numbers.now a.lengths.now) a.marks.now a.register_marks.now 0)) z, omega arith, search rules, c.requires.0, c.requires.1)
 
-pub returns-in-Stop : goal.returns-in-Stop
-returns-in-Stop c =
+pub returns-in-Some : goal.returns-in-Some
+returns-in-Some c =
     let a = c.args in
     let l = c.loop-stop in
     let q = (parts l.s l.memory l.registers l.touched l.columns l.numbers l.lengths) in
     let g = (guarded_on (parts l.s l.memory l.registers l.touched l.columns l.numbers l.lengths) l.marks l.register_marks l.mdr) in
     let b = a.breakpoints.now in
     let n = a.budget.0 - l.begun in
-    let x = c.in-Stop.stop in
-    let e : guard (hidden_from a.clearance) b l.begun n g ≡ stop x = sym c.judge-verdict.ensures ∙ ap verdict_of c.in-Stop.is in
+    let x = c.in-Some.stop in
+    let e : guard (hidden_from a.clearance) b l.begun n g ≡ stop x = sym c.judge-verdict.ensures ∙ ap verdict_of c.in-Some.is in
     let z = c.closed_core-core.ensures ∙ ap (λ (j : ℕ). closed_core j l.s) c.number.ensures in (
       (λ i. record { stop = x; executed = l.begun; guarded = record { machine = view (parts (z i) l.memory l.registers l.touched l.columns l.numbers l.lengths); marks = g.marks } })
           ∙ sym (guard_stops (hidden_from a.clearance) b l.begun n g x e)

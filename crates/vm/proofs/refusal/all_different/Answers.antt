@@ -1,46 +1,55 @@
-use Prim.Native.Nat.{◌<◌, zero-le}
+-- Assumes nothing.
+use Prim.Native.Nat.{ℕ, ◌+◌, ◌<◌}
 use native.Mathlib.Omega.{arith}
-use mathlib.Core.Path.{◌≡◌, sym}
+use mathlib.Core.Path.{refl, sym, ap, ◌∙◌}
+use lib.ListN.{length, get_or, take, length-set}
+use lib.Seq.{take_all, get_or-take, length-take-le}
+use mir.Val.{Fits}
+use mir.Syntax.{w8}
 use borrow.Author.Rules.{rules}
-use lib.ListN.{get_or, take, length-set}
 use Rattle.isa.specs.Sizes.{memory_words}
+use Rattle.control.proofs.Addresses.{of_memory}
+use Rattle.trace.specs.Touched.{distinct}
 use Rattle.trace.proofs.Lists.{distinct_snoc}
 use Rattle.trace.proofs.Checks.{dup, split, one_more_lem, seen_next, is_seen, not_seen, empty_table, none_twice, none_there}
 use Rattle.vm.proofs.refusal.all_different.Goals as goal
 
-pub loop-i-init : goal.loop-i-init
-loop-i-init c = (zero-le, c.requires.0, c.requires.1, search rules, none_twice, λ a h. rw (none_there a) (empty_table a))
+pub loop-item-init : goal.loop-item-init
+loop-item-init c = (refl, none_twice, λ j k. absurd (omega (arith, k)), λ a h. rw (none_there a) (empty_table a))
 
-pub overflow_cast-a : goal.overflow_cast-a
-overflow_cast-a c = omega (arith, c.requires.2 c.loop-i.i)
+pub returns-then-seen-a-eq1-clause-answer : goal.returns-then-seen-a-eq1-clause-answer
+returns-then-seen-a-eq1-clause-answer c =
+    let l = c.loop-item in
+    let i = l.item-index in
+    let live = take c.args.n c.args.items.now in
+    let x = get_or live i 0 in
+    let p = take i live in
+    let b : Fits w8 x = search rules in
+    let d = dup x p _ (is_seen l.seen p x l.invariant.0 (of_memory b) l.invariant.3 c.if-seen-a-eq1.true) in
+    sym d ∙ ap distinct (sym (split live i (length live) c.loop-item-test.true (omega arith)) ∙ take_all (length live) live (omega arith))
 
-pub bounds-seen-a : goal.bounds-seen-a
-bounds-seen-a c = let l = c.loop-i in omega (arith, c.requires.2 l.i, l.invariant.3)
+pub loop-item-preserved : goal.loop-item-preserved
+loop-item-preserved c =
+    let l = c.loop-item in
+    let i = l.item-index in
+    let live = take c.args.n c.args.items.now in
+    let x = get_or live i 0 in
+    let p = take i live in
+    let b : Fits w8 x = search rules in
+    let m = not_seen l.seen p x l.invariant.0 (of_memory b) l.invariant.3 c.if-seen-a-eq1.false in
+    let o = one_more_lem live i c.loop-item-test.true in
+    let more : (j : ℕ) → j < i + 1 → get_or live j 0 < memory_words = λ j k. let f : Fits w8 (get_or live j 0) = search rules in of_memory f in
+    (simp length-set l.invariant.0, rw o (distinct_snoc x p l.invariant.1 m), more, λ a h. rw o (seen_next l.seen p x l.invariant.0 l.invariant.3 a h))
 
-pub returns-then-seen-a-eq1 : goal.returns-then-seen-a-eq1
-returns-then-seen-a-eq1 c =
-    let s = c in
-    let l = c.loop-i in
-    let t = s.args.items.now in
-    let x = get_or t l.i 0 in
-    let p = take l.i t in
-    rw (split t l.i s.args.n c.loop-i-test.true (omega (arith, l.invariant.1, l.invariant.2)))
-    (sym (dup x p _ (is_seen l.seen p x l.invariant.3 (s.requires.2 l.i) l.invariant.5 c.if-seen-a-eq1.true)))
+pub returns-clause-answer : goal.returns-clause-answer
+returns-clause-answer c =
+    let l = c.loop-item in
+    let live = take c.args.n c.args.items.now in
+    sym l.invariant.1 ∙ ap distinct (take_all l.item-index live (omega arith))
 
-pub bounds-seen-a-in-loop-i : goal.bounds-seen-a-in-loop-i
-bounds-seen-a-in-loop-i c = let l = c.loop-i in omega (arith, c.requires.2 l.i, l.invariant.3)
-
-pub loop-i-preserved : goal.loop-i-preserved
-loop-i-preserved c =
-    let s = c in
-    let l = c.loop-i in
-    let t = s.args.items.now in
-    let x = get_or t l.i 0 in
-    let p = take l.i t in
-    let b : x < memory_words = s.requires.2 l.i in
-    let m = not_seen l.seen p x l.invariant.3 b l.invariant.5 c.if-seen-a-eq1.false in
-    let o = one_more_lem t l.i (omega (arith, c.loop-i-test.true, l.invariant.1, l.invariant.2)) in
-    (omega arith, l.invariant.1, l.invariant.2, simp length-set l.invariant.3, rw o (distinct_snoc x p l.invariant.4 m), λ a h. rw o (seen_next l.seen p x l.invariant.3 l.invariant.5 a h))
-
-pub returns : goal.returns
-returns c = let l = c.loop-i in let e : l.i ≡ c.args.n = omega (arith, l.invariant.0, c.loop-i-test.false) in sym (rw e at l.invariant.4)
+pub returns-clause-below : goal.returns-clause-below
+returns-clause-below c = λ _ i h.
+    let a = c.args in
+    let k = length-take-le a.n a.items.now (omega arith) in
+    let b : get_or (take a.n a.items.now) i 0 < memory_words = c.loop-item.invariant.2 i (omega (arith, h, k)) in
+    rw (get_or-take a.n a.items.now i 0 h) at b

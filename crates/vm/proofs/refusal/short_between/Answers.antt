@@ -1,14 +1,27 @@
+-- Assumes nothing.
+use Prim.Native.Nat.{◌-◌}
+use native.Mathlib.Nat.{sub-zero}
 use native.Mathlib.Omega.{arith}
-use mathlib.Core.Path.{◌≡◌}
+use mathlib.Core.Path.{ap, ◌∙◌}
+use lib.ListN.{take, drop}
+use lib.Seq.{take_all}
+use Rattle.trace.specs.Trace.{short_texts}
 use Rattle.trace.proofs.Checks.{short_none, short_next}
 use Rattle.vm.proofs.refusal.short_between.Goals as goal
 
-pub loop-i-init : goal.loop-i-init
-loop-i-init c = (omega arith, c.requires.0, c.requires.1, c.requires.2, short_none _ c.args.from)
+pub loop-length-init : goal.loop-length-init
+loop-length-init c = short_none c.args.lengths.now 0
 
-pub loop-i-preserved : goal.loop-i-preserved
-loop-i-preserved c = let l = c.loop-i in let a = c.args in
-    (omega arith, omega arith, l.invariant.2, l.invariant.3, short_next a.lengths.now a.from l.i l.over l.invariant.0 (omega arith) l.invariant.4)
+pub loop-length-preserved : goal.loop-length-preserved
+loop-length-preserved c =
+    let l = c.loop-length in
+    let a = c.args in
+    let live = take (a.to - a.from) (drop a.from a.lengths.now) in
+    let more = short_next live 0 l.length-index l.over (omega arith) (omega arith) (rw sub-zero l.invariant) in
+    rw sub-zero at more
 
 pub returns : goal.returns
-returns c = let l = c.loop-i in let a = c.args in let e : l.i ≡ a.to = omega arith in rw e at l.invariant.4
+returns c =
+    let l = c.loop-length in
+    let a = c.args in
+    l.invariant ∙ ap short_texts (take_all l.length-index (take (a.to - a.from) (drop a.from a.lengths.now)) (omega arith))

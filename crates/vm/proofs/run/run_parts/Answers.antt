@@ -3,7 +3,7 @@ use native.Mathlib.Omega.{arith}
 use mathlib.Core.Path.{◌≡◌, refl, ap, sym, ◌∙◌}
 use borrow.Author.Rules.{rules}
 use Rattle.guard.specs.Stops.{stop, go}
-use Rattle.guard.specs.Forms.{run_verdict_of}
+use Rattle.guard.specs.Forms.{verdict_of}
 use Rattle.vm.specs.Run.{verdict, run_number, run}
 use Rattle.vm.specs.View.{parts, view}
 use Rattle.vm.specs.Forms.{closed_core, closed_parts}
@@ -16,16 +16,16 @@ loop-stop-init c =
     let z : a.budget.0 - 0 ≡ a.budget.0 = omega arith in
     (ap (λ (j : ℕ). run a.breakpoints.now 0 j (view (parts a.from a.memory.now a.registers.now a.touched.now a.columns.now a.numbers.now a.lengths.now))) z, omega arith, search rules, c.requires, λ _. refl)
 
-pub returns-in-Stop : goal.returns-in-Stop
-returns-in-Stop c =
+pub returns-in-Some : goal.returns-in-Some
+returns-in-Some c =
     let a = c.args in
     let l = c.loop-stop in
     let q = (parts l.s l.memory l.registers l.touched l.columns l.numbers l.lengths) in
     let b = a.breakpoints.now in
     let n = a.budget.0 - l.begun in
-    let x = c.in-Stop.stop in
-    let e : verdict b l.begun n (view q) ≡ stop x = sym c.run_verdict-verdict.ensures ∙ ap run_verdict_of c.in-Stop.is in
-    let z = c.closed_core-core.ensures ∙ ap (λ (j : ℕ). closed_core j l.s) c.number.ensures in (
+    let x = c.in-Some.stop in
+    let e : verdict b l.begun n (view q) ≡ stop x = sym c.run_verdict-verdict.ensures ∙ ap verdict_of c.in-Some.is in
+    let z = c.closed_core-core.ensures ∙ ap (λ (j : ℕ). closed_core j l.s) c.run_number.ensures in (
       (λ i. record { stop = x; executed = l.begun; machine = view (parts (z i) l.memory l.registers l.touched l.columns l.numbers l.lengths) })
           ∙ sym (run_stops b l.begun n (view q) x e)
           ∙ l.invariant.0,
@@ -36,7 +36,7 @@ returns-in-Stop c =
 pub next_parts-t-requires : goal.next_parts-t-requires
 next_parts-t-requires c =
     let went : (let l = c.loop-stop in let a = c.args in verdict a.breakpoints.now l.begun (a.budget.0 - l.begun) (view (parts l.s l.memory l.registers l.touched l.columns l.numbers l.lengths)) ≡ go) =
-    sym c.run_verdict-verdict.ensures ∙ ap run_verdict_of c.in_default.is in
+    sym c.run_verdict-verdict.ensures ∙ ap verdict_of c.in_default.is in
     let l = c.loop-stop in
     let a = c.args in
     ((running a.breakpoints.now l.begun (a.budget.0 - l.begun) (view (parts l.s l.memory l.registers l.touched l.columns l.numbers l.lengths)) (went)).0, l.invariant.3)
@@ -44,7 +44,7 @@ next_parts-t-requires c =
 pub overflow_add-begun : goal.overflow_add-begun
 overflow_add-begun c =
     let went : (let l = c.loop-stop in let a = c.args in verdict a.breakpoints.now l.begun (a.budget.0 - l.begun) (view (parts l.s l.memory l.registers l.touched l.columns l.numbers l.lengths)) ≡ go) =
-    sym c.run_verdict-verdict.ensures ∙ ap run_verdict_of c.in_default.is in
+    sym c.run_verdict-verdict.ensures ∙ ap verdict_of c.in_default.is in
     let counts : c.loop-stop.begun < c.args.budget.0 =
     let l = c.loop-stop in
     let a = c.args in
@@ -54,7 +54,7 @@ overflow_add-begun c =
 pub forward_parts-f-requires : goal.forward_parts-f-requires
 forward_parts-f-requires c =
     let went : (let l = c.loop-stop in let a = c.args in verdict a.breakpoints.now l.begun (a.budget.0 - l.begun) (view (parts l.s l.memory l.registers l.touched l.columns l.numbers l.lengths)) ≡ go) =
-    sym c.run_verdict-verdict.ensures ∙ ap run_verdict_of c.in_default.is in
+    sym c.run_verdict-verdict.ensures ∙ ap verdict_of c.in_default.is in
     let counts : c.loop-stop.begun < c.args.budget.0 =
     let l = c.loop-stop in
     let a = c.args in
@@ -64,7 +64,7 @@ forward_parts-f-requires c =
 pub overflow_add-begun-in-loop-stop : goal.overflow_add-begun-in-loop-stop
 overflow_add-begun-in-loop-stop c =
     let went : (let l = c.loop-stop in let a = c.args in verdict a.breakpoints.now l.begun (a.budget.0 - l.begun) (view (parts l.s l.memory l.registers l.touched l.columns l.numbers l.lengths)) ≡ go) =
-    sym c.run_verdict-verdict.ensures ∙ ap run_verdict_of c.in_default.is in
+    sym c.run_verdict-verdict.ensures ∙ ap verdict_of c.in_default.is in
     let counts : c.loop-stop.begun < c.args.budget.0 =
     let l = c.loop-stop in
     let a = c.args in
@@ -74,7 +74,7 @@ overflow_add-begun-in-loop-stop c =
 pub loop-stop-smaller : goal.loop-stop-smaller
 loop-stop-smaller c =
     let went : (let l = c.loop-stop in let a = c.args in verdict a.breakpoints.now l.begun (a.budget.0 - l.begun) (view (parts l.s l.memory l.registers l.touched l.columns l.numbers l.lengths)) ≡ go) =
-    sym c.run_verdict-verdict.ensures ∙ ap run_verdict_of c.in_default.is in
+    sym c.run_verdict-verdict.ensures ∙ ap verdict_of c.in_default.is in
     let counts : c.loop-stop.begun < c.args.budget.0 =
     let l = c.loop-stop in
     let a = c.args in
@@ -84,7 +84,7 @@ loop-stop-smaller c =
 pub loop-stop-preserved : goal.loop-stop-preserved
 loop-stop-preserved c =
     let went : (let l = c.loop-stop in let a = c.args in verdict a.breakpoints.now l.begun (a.budget.0 - l.begun) (view (parts l.s l.memory l.registers l.touched l.columns l.numbers l.lengths)) ≡ go) =
-    sym c.run_verdict-verdict.ensures ∙ ap run_verdict_of c.in_default.is in
+    sym c.run_verdict-verdict.ensures ∙ ap verdict_of c.in_default.is in
     let counts : c.loop-stop.begun < c.args.budget.0 =
     let l = c.loop-stop in
     let a = c.args in

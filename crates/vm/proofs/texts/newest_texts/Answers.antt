@@ -1,29 +1,30 @@
--- The seven texts are what the seven calls say, and there are n of the newest n.
 -- Assumes nothing.
+use Prim.Native.Nat.{ℕ}
 use native.Mathlib.Omega.{arith}
-use mathlib.Core.Path.{sym}
-use mathlib.Core.List.{[], ◌∷◌}
-use Rattle.trace.specs.Trace.{live_texts, texts_in}
-use Rattle.vm.proofs.Newest.{texts-length, length-newest}
+use mathlib.Core.Path.{◌≡◌, ap, sym, ◌∙◌}
+use lib.ListN.{length}
+use Rattle.trace.specs.Trace.{live_texts, take_last, texts_in}
+use Rattle.vm.proofs.Newest.{texts-length, length-newest, placed, placed_none, placed_next, placed_all}
 use Rattle.vm.proofs.texts.newest_texts.Goals as goal
+
+pub loop-i-init : goal.loop-i-init
+loop-i-init c =
+    let a = c.args in
+    placed_none (take_last a.n (live_texts a.ring.start a.ring.len (texts_in a.columns.now) a.lengths.now)) c.from_bytes-texts.ensures
+
+pub loop-i-preserved : goal.loop-i-preserved
+loop-i-preserved c =
+    let a = c.args in
+    let l = c.loop-i in
+    placed_next l.i (take_last a.n (live_texts a.ring.start a.ring.len (texts_in a.columns.now) a.lengths.now)) (omega arith) c.newest_text.ensures l.invariant
 
 pub returns : goal.returns
 returns c =
-    let p₆ = c in
-    let p₅ = p₆ in
-    let p₄ = p₅ in
-    let p₃ = p₄ in
-    let p₂ = p₃ in
-    let p₁ = p₂ in
-    let s = p₁ in
-    let a = s.args in
-    let t = live_texts a.ring.start a.ring.len (texts_in a.columns.now) a.lengths.now in
-    let e = sym (length-newest a.n t (omega (arith, s.requires.1, texts-length a.ring.start a.ring.len (texts_in a.columns.now) a.lengths.now s.requires.2))) in
-    let q₀ = p₁.newest_text.ensures in
-    let q₁ = p₂.newest_text-2.ensures in
-    let q₂ = p₃.newest_text-3.ensures in
-    let q₃ = p₄.newest_text-4.ensures in
-    let q₄ = p₅.newest_text-5.ensures in
-    let q₅ = p₆.newest_text-6.ensures in
-    let q₆ = c.newest_text-7.ensures in
-    λ j. record { texts = q₀ j ∷ q₁ j ∷ q₂ j ∷ q₃ j ∷ q₄ j ∷ q₅ j ∷ q₆ j ∷ []; count = e j }
+    let a = c.args in
+    let l = c.loop-i in
+    let all = live_texts a.ring.start a.ring.len (texts_in a.columns.now) a.lengths.now in
+    let t = take_last a.n all in
+    let n : length t ≡ a.n = length-newest a.n all (omega (arith, texts-length a.ring.start a.ring.len (texts_in a.columns.now) a.lengths.now c.requires.2)) in
+    let e : l.i ≡ length t = omega arith in
+    let b = l.invariant ∙ ap (λ (k : ℕ). placed k t) e ∙ placed_all t in
+    λ j. record { texts = b j; count = sym n j }

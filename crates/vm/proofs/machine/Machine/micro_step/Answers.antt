@@ -1,29 +1,29 @@
-use Prim.Native.Nat.{ℕ}
-use mathlib.Core.Path.{◌≡◌, refl, ap}
-use borrow.Author.Rules.{rules}
-use lib.ListN.{length, get_or}
-use mir.Val.{Fits}
-use mir.Syntax.{w8}
-use Rattle.isa.specs.Sizes.{memory_words}
-use Rattle.trace.specs.Trace.{columns_length, trace_limit}
-use Rattle.vm.specs.StepCalls.{micro_answer}
-use Rattle.control.proofs.Addresses.{of_memory}
-use Rattle.vm.proofs.Fits.{with_parts}
+-- One tick is an instruction's first, and its text is the newest.
+-- Assumes nothing.
+use mathlib.Core.Path.{ap, sym, ◌∙◌}
+use Rattle.vm.specs.Instruction.{Steps}
+use Rattle.vm.specs.Calls.{parts_of, view_of}
+use Rattle.vm.specs.StepCalls.{halted_op, micro_effect}
+use Rattle.vm.proofs.Newest.{one_step}
+use Rattle.vm.proofs.Fits.{lasts, has_one, first_text, made_op, moves}
 use Rattle.vm.proofs.machine.Machine.micro_step.Goals as goal
 
--- what owning the machine tells of its arrays
-pub micro_parts-r-requires : goal.micro_parts-r-requires
-micro_parts-r-requires c =
-    let m = c.args.self in
-    let touched : length m.touched ≡ memory_words = search rules in
-    let bytes : (i : ℕ) → Fits w8 (get_or m.touched i 0) = λ i. search rules in
-    let columns : length m.columns ≡ columns_length = search rules in
-    let numbers : length m.numbers ≡ trace_limit = search rules in
-    let lengths : length m.lengths ≡ trace_limit = search rules in
-    record { touched = touched; bytes = λ i. of_memory (bytes i); columns = columns; numbers = numbers; lengths = lengths }
+pub newest_text-text-requires : goal.newest_text-text-requires
+newest_text-text-requires c =
+    let m = c.args.self.now in
+    let t = c.instruction_parts-stepped in
+    let q = t.ensures.1.trace in
+    (has_one t.result.ticks.0 (parts_of m) t.result.done c.in_ok-step_served.ensures.fit t.ensures.1 (rw c.core.ensures at t.ensures.0), q.count, q.columns, q.lengths)
 
-pub returns : goal.returns
-returns c =
-    let m = c.args.self in
-    let r = c.micro_parts-r.ensures in
-    record { answer = ap micro_answer r.0; rest = refl; kept = λ e. ap (with_parts m) (r.1 e); lasting = r.2 }
+pub returns-clause-answer : goal.returns-clause-answer
+unfolding micro_effect
+returns-clause-answer c =
+    let m = c.args.self.now in
+    let t = c.instruction_parts-stepped in
+    let k = rw c.core.ensures at t.ensures.0 in
+    let e = k ∙ one_step (view_of m) in
+    let x = c.newest_text-text.ensures ∙ first_text t.result.ticks.0 (parts_of m) t.result.done c.in_ok-step_served.ensures.fit t.ensures.1 k in
+    moves (halted_op m.state) (view_of m) (sym c.step_served.ensures.answer ∙ c.in_ok-step_served.was) c.if-state.false (c.op_after.ensures ∙ made_op (view_of m) e x) (ap view_of c.set_core.ensures ∙ ap (λ (y : Steps). y.machine) e)
+
+pub returns-clause-lasting : goal.returns-clause-lasting
+returns-clause-lasting c = rw c.set_core.ensures (λ k. lasts (parts_of c.args.self.now) _ _ k c.instruction_parts-stepped.ensures.1)

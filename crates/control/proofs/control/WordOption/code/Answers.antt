@@ -1,8 +1,0 @@
--- `code` of a `WordOption` meets its contract, by the variants. Assumes nothing.
-use Rattle.control.proofs.control.WordOption.code.Goals as goal
-
-pub returns-in-Some : goal.returns-in-Some
-returns-in-Some c = rw c.in-Some.is
-
-pub returns-in-None : goal.returns-in-None
-returns-in-None c = rw c.in-None.is

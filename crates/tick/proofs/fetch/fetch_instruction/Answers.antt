@@ -1,5 +1,0 @@
--- Assumes nothing.
-use Rattle.tick.proofs.fetch.fetch_instruction.Goals as goal
-
-pub returns : goal.returns
-returns c = rw c.with_control.ensures at c.quiet.ensures
