@@ -28,9 +28,9 @@
 #define MASSEY_VERSION 6
 
 /* The stack that is enough for any of the calls. Measured, less what an empty
- * thread takes: massey_report 51,384 bytes, massey_assemble 7,768 and
- * massey_listing 1,416. */
-#define MASSEY_STACK 65536
+ * thread takes: massey_report 80,120 bytes, massey_assemble 8,808 and
+ * massey_listing 4,472. */
+#define MASSEY_STACK 98304
 
 /* ---- sizes */
 

@@ -66,7 +66,7 @@ impl Instruction {
         (self.raw / 4096 % 16) as u8
     }
 
-    // The opcode, or `Unknown` where the first digit is no MASSEY opcode.
+    // The opcode, or `None` where the first digit is no MASSEY opcode.
     pub fn opcode(self) -> Option<Opcode>
         ensures { result ≡ decode_word self.raw }
     {

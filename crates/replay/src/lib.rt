@@ -10,7 +10,7 @@ ghost use Rattle.encoding.specs.Bytes.{big_endian, written, read_number};
 
 use encoding::{get_number, put_bytes, put_number};
 use isa::FixedText;
-pub use list::replay_records;
+pub use list::{Replay, replay_records};
 
 // The byte at an index, 0 past the end: no caller has to test first.
 pub fn byte_at(bytes: &[u8], at: usize) -> u8

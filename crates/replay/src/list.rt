@@ -9,6 +9,11 @@ use std::io::{Read, Result, Write};
 // Room for the line of the largest counts, of 57 bytes.
 const LINE: usize = 64;
 
+// What a replay has records of: it says of each whether it passes.
+pub trait Replay {
+    fn passes(&self, record: &[u8]) -> bool;
+}
+
 // How many records passed, and how many failed.
 #[derive(Clone, Copy)]
 struct Counts {
@@ -40,13 +45,11 @@ impl Counts {
 // was there failed. `buffer` has room for the longest that two bytes of length can announce, so that a record
 // of any length is read whole, and the next begins where it should. A read that fails is taken for the
 // list's end.
-fn next_passes<R: Read, F: Fn(&[u8]) -> bool>(
+fn next_passes<R: Read, T: Replay>(
     from: &mut R,
     buffer: &mut [u8; 65536],
-    passes: &F,
-) -> Option<bool>
-    requires { F.IsAlwaysCallable passes.now }
-{
+    replay: &T,
+) -> Option<bool> {
     let mut head = [0u8; 2];
     let got = read_input(from, &mut head);
     if got.len == 0 {
@@ -58,17 +61,16 @@ fn next_passes<R: Read, F: Fn(&[u8]) -> bool>(
     let size = u16::from_be_bytes(head) as usize;
     let record = &mut buffer[..size];
     let got = read_input(from, record);
-    Some(got.len == size && passes(record))
+    Some(got.len == size && replay.passes(record))
 }
 
 // Tests each record of a list to its end, and writes one line: how many passed and how many failed. A
 // proved loop has to end, and nothing says that the input does, so it has more turns than any run uses up.
-pub fn replay_records<R: Read, W: Write, F: Fn(&[u8]) -> bool>(
+pub fn replay_records<R: Read, W: Write, T: Replay>(
     from: &mut R,
     to: &mut W,
-    passes: F,
+    replay: &T,
 ) -> Result<()>
-    requires { F.IsAlwaysCallable passes }
     ensures { OnOk result ((p : ℕ) × (f : ℕ) × Appends (W.contents to.old) (W.contents to.new) (counts_line p f)) }
 {
     let mut buffer = io::large_buffer();
@@ -77,7 +79,7 @@ pub fn replay_records<R: Read, W: Write, F: Fn(&[u8]) -> bool>(
         failed: 0,
     };
     for _ in 0..u64::MAX {
-        match next_passes(from, &mut buffer, &passes) {
+        match next_passes(from, &mut buffer, replay) {
             Some(passed) => counts.add(passed),
             None => break,
         }

@@ -7,19 +7,25 @@
 mod readings;
 mod reports;
 
-use replay::replay_records;
+use replay::{Replay, replay_records};
 use std::io::Result;
 
-// Whether a record is one that the original or the model would write. Where the kind is missing or
-// unknown, it is not.
-fn passes(record: &[u8]) -> bool {
-    match record.first() {
-        Some(b'R') => readings::passes(record),
-        Some(b'G') => reports::passes(record),
-        _ => false,
+// The replay of readings and reports.
+#[derive(Clone, Copy)]
+struct Records;
+
+impl Replay for Records {
+    // Whether a record is one that the original or the model would write. Where the kind is missing or
+    // unknown, it is not.
+    fn passes(&self, record: &[u8]) -> bool {
+        match record.first() {
+            Some(b'R') => readings::passes(record),
+            Some(b'G') => reports::passes(record),
+            _ => false,
+        }
     }
 }
 
 fn main(rt: HostRuntime) -> Result<()> {
-    replay_records(&mut rt.stdin(), &mut rt.stdout(), passes)
+    replay_records(&mut rt.stdin(), &mut rt.stdout(), &Records)
 }

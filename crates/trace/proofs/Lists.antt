@@ -144,3 +144,11 @@ below_set h (x ∷ xs) zero v f b zero k = b
 below_set h (x ∷ xs) zero v f b (suc j) k = absurd (omega (arith, k))
 below_set h (x ∷ xs) (suc n) v f b zero k = f 0 (omega arith)
 below_set h (x ∷ xs) (suc n) v f b (suc j) k = below_set h xs n v (λ i p. f (suc i) (omega (arith, p))) b j (omega (arith, k))
+
+-- writing a number below h into numbers that are all below h, live or not, leaves all below it
+pub below_all : (h : ℕ) (l : List ℕ) (i v : ℕ) → ((j : ℕ) → get_or l j 0 < h) → v < h → (j : ℕ) → get_or (set l i v) j 0 < h
+below_all h [] i v f b j = f j
+below_all h (x ∷ xs) zero v f b zero = b
+below_all h (x ∷ xs) zero v f b (suc j) = f (suc j)
+below_all h (x ∷ xs) (suc i) v f b zero = f 0
+below_all h (x ∷ xs) (suc i) v f b (suc j) = below_all h xs i v (λ k. f (suc k)) b j

@@ -1,13 +1,13 @@
 -- The array of the touched addresses: one address more.
 -- Assumes nothing.
-use Rattle.std.proofs.Common.{◌≡◌, ℕ, ◌+◌, ◌<◌, Bool, true, false, cond, ltb, List, [], ◌∷◌, ◌++◌, take, set, refl, add-one, arith, length-set, length-take-le, get_or-take, take-suc-set, lt-ltb, Option, Some, None}
+use Rattle.std.proofs.Common.{◌≡◌, ℕ, ◌+◌, ◌<◌, Bool, true, false, cond, ltb, List, [], ◌∷◌, ◌++◌, take, set, refl, add-one, arith, length-set, length-take-le, get_or, get_or-take, take-suc-set, lt-ltb, Option, Some, None}
 use Rattle.isa.specs.Sizes.{memory_words}
 use Rattle.encoding.specs.Bytes.{member}
 use Rattle.control.specs.declared.control.BusTransfer.{BusTransfer}
 use Rattle.control.specs.declared.control.BusTransfer.TheVariants.{Read, Write}
 use Rattle.trace.specs.Touched.{noted, touched_by, Addressed, TouchFit}
 use Rattle.trace.specs.Forms.{Places, places_of, note_in, touch_in}
-use Rattle.trace.proofs.Lists.{below_of, full, distinct_snoc, below_set}
+use Rattle.trace.proofs.Lists.{below_of, full, distinct_snoc, below_set, below_all}
 
 module _ (items : List ℕ) (n a : ℕ) (f : TouchFit n items) (of_memory : a < memory_words) where
   -- an address that is not there has room
@@ -50,3 +50,16 @@ unfolding touch_in
 touched-live None q e h f = rw e (refl, f)
 touched-live (Some (Read a v)) q e h f = rw e (refl, f)
 touched-live (Some (Write a v)) q e h f = rw e (notes q.items q.count a f h)
+
+-- and where all places have addresses of memory, those past the count too, all have them after it
+pub touched-below : (b : Option BusTransfer) (q : Places) {q' : Places} → q' ≡ touch_in b q → Addressed b → ((i : ℕ) → get_or q.items i 0 < memory_words)
+    → (i : ℕ) → get_or q'.items i 0 < memory_words
+unfolding touch_in note_in
+touched-below None q e h f = rw e f
+touched-below (Some (Read a v)) q e h f = rw e f
+touched-below (Some (Write a v)) q e h f = rw e (go (ltb q.count memory_words) (member a (take q.count q.items)))
+  where
+    go : (s t : Bool) (i : ℕ) → get_or (cond s (cond t q (places_of (q.count + 1) (set q.items q.count a))) q).items i 0 < memory_words
+    go true true = f
+    go true false = below_all memory_words q.items q.count a f h
+    go false t = f

@@ -61,6 +61,7 @@ fn guarded_parts(
     let mut begun: u64 = 0;
     let mut total = hidden_total;
     let mut mdr: u8 = 0;
+    // No `for`: how many instructions a turn makes is known behind it alone.
     loop {
         let state = s.state;
         let pc = state.control.pc as usize;

@@ -48,6 +48,7 @@ pub(crate) fn instruction_parts(
     };
     let mut made: u64 = 0;
     let mut left = limit.0;
+    // The loop that 01 names ('Which shape goes where'): it yields by break whether the last tick halted.
     let halted = loop {
         let t = tick_parts(s, memory, registers, touched, columns, numbers, lengths);
         s = t.core;

@@ -90,6 +90,7 @@ pub(crate) fn run_parts(
     let mut s = from;
     let limit = budget.0;
     let mut begun: u64 = 0;
+    // No `for`: how many instructions a turn makes is known behind it alone.
     loop {
         let state = s.state;
         let counters = s.counters;
