@@ -114,7 +114,8 @@ fn scan(pattern: &[u8], base: u64, s: &[u8]) -> Option<Seen>
     })
 }
 
-// A text read by the form of this number.
+// A text read by the form of this number. A table of patterns and bases would have the same seventeen rows, and its
+// patterns would need a length beside them.
 fn by_form(f: usize, s: &[u8]) -> Option<Seen>
     requires { f < 17 }
     ensures { result ≡ keyed (form_at forms f).pattern (form_at forms f).base 0 s.now }

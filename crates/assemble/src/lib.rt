@@ -13,7 +13,7 @@ mod text;
 pub use calls::{assemble, assemble_bytes};
 use listing::LISTING_WORDS;
 
-// The image of a text: `count` words and zeros behind them.
+// The image of a text: `count` words and zeros behind them, since there is no heap.
 #[derive(Clone, Copy, Debug, PartialEq, Eq)]
 pub struct Assembled {
     pub words: [u16; LISTING_WORDS],

@@ -162,7 +162,8 @@ fn hidden_jump(clearance: u8, word: u16, registers: &[u8; REGISTER_COUNT]) -> bo
 }
 
 // The five tests before an instruction of a guarded run, and why it does not begin: the reader's clearance, the
-// instruction's word, that word's mark, the marks of the registers.
+// instruction's word, that word's mark, the marks of the registers. They come from the machine, the input and the
+// marks: a struct of them would be made for this call alone.
 pub fn judge(
     clearance: u8,
     state: State,

@@ -38,7 +38,8 @@ pub enum Opcode {
     Halt = 0xE,
 }
 
-// The fixed texts, a row for each opcode in the order of `Opcode::ALL`, filled up with spaces.
+// The fixed texts, a row for each opcode in the order of `Opcode::ALL`, filled up with spaces. A table for each kind of
+// text, since each has its width: as one table of structs it would name each field thirteen times.
 const MNEMONICS: [[u8; 6]; 13] = [
     *b"LOAD  ", *b"LOAD  ", *b"LOAD  ", *b"STORE ", *b"      ", *b"NEGATE", *b"SHIFT ", *b"SHIFT ",
     *b"      ", *b"      ", *b"      ", *b"JUMP  ", *b"HALT  ",

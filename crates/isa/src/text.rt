@@ -1,4 +1,4 @@
-// Texts by value. Rattle has no strings, so a text is an array and the number of its live bytes.
+// Texts by value. There is no heap, so a text is an array and the number of its live bytes.
 ghost use Rattle.std.specs.Prelude.{◌≡◌, ◌≤◌, min, length, take};
 ghost use Rattle.isa.specs.Text.{fixed_text, trimmed};
 

@@ -105,7 +105,8 @@ fn shifts_out(word: u16) -> bool
     WORD_BITS <= (word % 256) as u32
 }
 
-// From the instruction, and the marks of x, y, z, of y and z joined, and of the word that LOAD or STORE reaches.
+// From the instruction, and the marks of x, y, z, of y and z joined, and of the word that LOAD or STORE reaches. They are
+// no struct: its one caller has read them from where they stand, and would make one for this call alone.
 fn moves_of(decoded: Option<Opcode>, word: u16, x: u8, y: u8, z: u8, both: u8, cell: u8) -> Moved
     ensures { result ≡ moves decoded word x y z both cell }
 {

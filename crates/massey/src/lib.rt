@@ -18,6 +18,7 @@ pub extern "C" fn massey_disassemble(word: u16, out: &mut [u8]) -> i64
     ensures { outcome result out.new ≡ disassemble_outcome word out.old }
 {
     if out.len() < TEXT_WIDTH {
+        // As C has it: minus the number of `ShortBuffer`.
         return -5;
     }
     disassemble_into(out, 0, word) as i64

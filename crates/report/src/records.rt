@@ -1,5 +1,6 @@
 // One record of each kind, written where it is known to fit. `out`, `at` and `clearance` are no struct: `at` differs at
 // each call, so that each would make a new one.
+// The kinds are written as document 01's table has them (section 6): an enum would name each kind once more.
 ghost use Rattle.std.specs.Prelude.{◌≡◌, [], ◌∷◌, ◌+◌, ◌≤◌, length};
 ghost use Rattle.encoding.specs.Bytes.{over, big_endian};
 ghost use Rattle.isa.specs.Sizes.{text_width};
