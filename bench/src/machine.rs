@@ -1,6 +1,6 @@
 //! The machine's calls, each many times on a machine that was just loaded. The
-//! port's calls take the machine by value and check its state each time; the
-//! original's borrow it and check nothing.
+//! port's calls check the machine's state each time; the original's check
+//! nothing.
 
 use crate::{medians, timing};
 use oracle::vm::Machine;

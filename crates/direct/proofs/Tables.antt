@@ -78,7 +78,7 @@ module _ (items t : List ℕ) (n a : ℕ) (f : TouchFit n items) (g : Table (tak
     room : n < memory_words
     room =
         let l = length-take-le n items (omega (arith, f.count, f.long)) in
-        let b = below_of memory_words (take n items) (λ i h. rw (get_or-take n items i 0 (omega arith)) (f.below i (omega arith))) in
+        let b = below_of memory_words (take n items) (λ i h. rw (get_or-take n items i 0 (omega arith)) (f.below i)) in
         omega (arith, full memory_words a (take n items) f.differ b of_memory absent)
 
     written : places_of (n + 1) (set items n a) ≡ touch_in (Some (Write a 0)) (places_of n items)

@@ -1,5 +1,7 @@
 // Records of kind 'R': an image, so many ticks of a new machine with it, and what every reading then
 // answers.
+ghost use Rattle.std.specs.Prelude.{◌≤◌, IfOk};
+
 use answer::first;
 use encoding::{Refusal, get_number, get_words, put_bytes, put_number, put_words};
 use isa::MEMORY_WORDS;
@@ -26,8 +28,10 @@ fn ticked(image: &[u16], ticks: u64) -> Result<Machine, Refusal> {
 }
 
 // Puts what every reading answers, and tells how many bytes that are.
-fn put_answers(out: &mut [u8], m: &Machine, address: u8) -> Result<usize, Refusal> {
-    let image = m.image()?;
+fn put_answers(out: &mut [u8], m: &Machine, address: u8) -> Result<usize, Refusal>
+    ensures { IfOk result (λ n. n ≤ 573) }
+{
+    let image = m.image()?.words;
     let at = 16 + 2 * image.len().min(MEMORY_WORDS);
     let position = m.transfer_position()?;
     put_number(out, 0, 8, m.image_len()? as u64);

@@ -137,18 +137,10 @@ distinct_snoc a (x ∷ xs) d m =
     let m : member x (xs ++ (a ∷ [])) ≡ false = simp (mem_last, p.0, n) in
     rw m (distinct_snoc a xs p.1 q.1)
 
--- the first n are below h: so is one more, where a number below h is written behind them
-pub below_set : (h : ℕ) (l : List ℕ) (n v : ℕ) → ((j : ℕ) → j < n → get_or l j 0 < h) → v < h → (j : ℕ) → j < n + 1 → get_or (set l n v) j 0 < h
-below_set h [] n v f b j k = omega (arith, b)
-below_set h (x ∷ xs) zero v f b zero k = b
-below_set h (x ∷ xs) zero v f b (suc j) k = absurd (omega (arith, k))
-below_set h (x ∷ xs) (suc n) v f b zero k = f 0 (omega arith)
-below_set h (x ∷ xs) (suc n) v f b (suc j) k = below_set h xs n v (λ i p. f (suc i) (omega (arith, p))) b j (omega (arith, k))
-
 -- writing a number below h into numbers that are all below h, live or not, leaves all below it
-pub below_all : (h : ℕ) (l : List ℕ) (i v : ℕ) → ((j : ℕ) → get_or l j 0 < h) → v < h → (j : ℕ) → get_or (set l i v) j 0 < h
-below_all h [] i v f b j = f j
-below_all h (x ∷ xs) zero v f b zero = b
-below_all h (x ∷ xs) zero v f b (suc j) = f (suc j)
-below_all h (x ∷ xs) (suc i) v f b zero = f 0
-below_all h (x ∷ xs) (suc i) v f b (suc j) = below_all h xs i v (λ k. f (suc k)) b j
+pub below_set : (h : ℕ) (l : List ℕ) (i v : ℕ) → ((j : ℕ) → get_or l j 0 < h) → v < h → (j : ℕ) → get_or (set l i v) j 0 < h
+below_set h [] i v f b j = f j
+below_set h (x ∷ xs) zero v f b zero = b
+below_set h (x ∷ xs) zero v f b (suc j) = f (suc j)
+below_set h (x ∷ xs) (suc i) v f b zero = f 0
+below_set h (x ∷ xs) (suc i) v f b (suc j) = below_set h xs i v (λ k. f (suc k)) b j

@@ -7,14 +7,14 @@ use Rattle.control.specs.declared.control.BusTransfer.{BusTransfer}
 use Rattle.control.specs.declared.control.BusTransfer.TheVariants.{Read, Write}
 use Rattle.trace.specs.Touched.{noted, touched_by, Addressed, TouchFit}
 use Rattle.trace.specs.Forms.{Places, places_of, note_in, touch_in}
-use Rattle.trace.proofs.Lists.{below_of, full, distinct_snoc, below_set, below_all}
+use Rattle.trace.proofs.Lists.{below_of, full, distinct_snoc, below_set}
 
 module _ (items : List ℕ) (n a : ℕ) (f : TouchFit n items) (of_memory : a < memory_words) where
   -- an address that is not there has room
   room : member a (take n items) ≡ false → n < memory_words
   room m =
       let e = length-take-le n items (omega (arith, f.count, f.long)) in
-      let b = below_of memory_words (take n items) (λ i h. rw (get_or-take n items i 0 (omega arith)) (f.below i (omega arith))) in
+      let b = below_of memory_words (take n items) (λ i h. rw (get_or-take n items i 0 (omega arith)) (f.below i)) in
       omega (arith, full memory_words a (take n items) f.differ b of_memory m)
 
   added : n < memory_words → take (n + 1) (set items n a) ≡ take n items ++ (a ∷ [])
@@ -61,5 +61,5 @@ touched-below (Some (Write a v)) q e h f = rw e (go (ltb q.count memory_words) (
   where
     go : (s t : Bool) (i : ℕ) → get_or (cond s (cond t q (places_of (q.count + 1) (set q.items q.count a))) q).items i 0 < memory_words
     go true true = f
-    go true false = below_all memory_words q.items q.count a f h
+    go true false = below_set memory_words q.items q.count a f h
     go false t = f

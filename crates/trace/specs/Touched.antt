@@ -31,5 +31,5 @@ distinct (x ∷ xs) = cond (member x xs) false (distinct xs)
 pub record TouchFit (n : ℕ) (t : List ℕ) : Type 0 where
   pub count : n ≤ memory_words
   pub long : length t ≡ memory_words
-  pub below : (i : ℕ) → i < n → slice_index t i < memory_words
+  pub below : (i : ℕ) → slice_index t i < memory_words
   pub differ : distinct (take n t) ≡ true

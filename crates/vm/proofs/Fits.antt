@@ -41,7 +41,7 @@ fit q n e z =
     let e5 = both (leb c.touched_len memory_words) _ e4.1 in
     record {
       control = e1.0;
-      touched = record { count = leb-true c.touched_len memory_words e5.0; long = z.touched; below = λ i _. z.bytes i; differ = e5.1 };
+      touched = record { count = leb-true c.touched_len memory_words e5.0; long = z.touched; below = z.bytes; differ = e5.1 };
       trace = record { count = leb-true c.trace_len 512 e3.0; columns = z.columns; numbers = z.numbers; lengths = z.lengths; short = e4.0 };
     }
 

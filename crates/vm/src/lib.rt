@@ -22,5 +22,6 @@ pub use machine::Machine;
 pub use micro::MicroOp;
 pub use parts::Core;
 pub use plan::{execute_tick_count, transfer_plan};
+pub use readings::Image;
 pub use run::Ran;
 pub use step::InstructionReport;

@@ -1,5 +1,5 @@
 // The calls that read a machine and leave it as it is.
-ghost use Rattle.std.specs.Prelude.{◌≡◌, not, take, get_or};
+ghost use Rattle.std.specs.Prelude.{◌≡◌, not, take, drop, get_or};
 ghost use Rattle.isa.specs.Text.{text};
 ghost use Rattle.isa.specs.Word.{instruction};
 ghost use Rattle.disasm.specs.Disassembly.{disassemble_text};
@@ -11,6 +11,13 @@ use crate::machine::Machine;
 use disasm::disassemble;
 use encoding::Refusal;
 use isa::{Instruction, Text};
+
+// The loaded image: its words, and the places past them.
+#[derive(Clone, Copy)]
+pub struct Image<'a> {
+    pub words: &'a [u16],
+    pub past: &'a [u16],
+}
 
 fn position_of(halted: bool, tick: u8) -> Option<u8>
     ensures { result ≡ position_of halted tick }
@@ -43,11 +50,13 @@ impl Machine {
 
     // The loaded image.
     #[tactic(auto, unfolding(crate::specs::Refusal::parts_ok))]
-    pub fn image(&self) -> Result<&[u16], Refusal>
-        ensures { result_map (λ w. w.now) result ≡ served (is_machine self.now) (take self.now.image_len self.now.image) }
+    pub fn image(&self) -> Result<Image<'_>, Refusal>
+        ensures words { result_map (λ i. i.words.now) result ≡ served (is_machine self.now) (take self.now.image_len self.now.image) }
+        ensures past { result_map (λ i. i.past.now) result ≡ served (is_machine self.now) (drop self.now.image_len self.now.image) }
     {
         self.served()?;
-        Ok(&self.image[..self.image_len])
+        let (words, past) = self.image.split_at(self.image_len);
+        Ok(Image { words, past })
     }
 
     // True when the machine can still run.

@@ -45,8 +45,10 @@ fn texts_short(start: usize, n: usize, lengths: &[u8; TRACE_LIMIT]) -> bool
 fn all_different(items: &[Address; MEMORY_WORDS], n: usize) -> bool
     requires { n ≤ memory_words }
     ensures answer { result ≡ distinct (take n items.now) }
-    ensures below { result ≡ true → (i : ℕ) → i < n → get_or items.now i 0 < memory_words }
+    ensures below { result ≡ true → (i : ℕ) → get_or items.now i 0 < memory_words }
 {
+    // One read, by which the proof has of each place, live or not, that it is an address of memory.
+    let _first = items[0];
     let mut seen = [0u8; MEMORY_WORDS];
     for &item in &items[..n] {
         let a = item as usize;

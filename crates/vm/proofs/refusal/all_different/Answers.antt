@@ -1,13 +1,11 @@
 -- Assumes nothing.
-use Prim.Native.Nat.{ℕ, ◌+◌, ◌<◌}
 use native.Mathlib.Omega.{arith}
 use mathlib.Core.Path.{refl, sym, ap, ◌∙◌}
 use lib.ListN.{length, get_or, take, length-set}
-use lib.Seq.{take_all, get_or-take, length-take-le}
+use lib.Seq.{take_all}
 use mir.Val.{Fits}
 use mir.Syntax.{w8}
 use borrow.Author.Rules.{rules}
-use Rattle.isa.specs.Sizes.{memory_words}
 use Rattle.control.proofs.Addresses.{of_memory}
 use Rattle.trace.specs.Touched.{distinct}
 use Rattle.trace.proofs.Lists.{distinct_snoc}
@@ -15,7 +13,7 @@ use Rattle.trace.proofs.Checks.{dup, split, one_more_lem, seen_next, is_seen, no
 use Rattle.vm.proofs.refusal.all_different.Goals as goal
 
 pub loop-item-init : goal.loop-item-init
-loop-item-init c = (refl, none_twice, λ j k. absurd (omega (arith, k)), λ a h. rw (none_there a) (empty_table a))
+loop-item-init c = (refl, none_twice, λ a h. rw (none_there a) (empty_table a))
 
 pub returns-then-seen-a-eq1-clause-answer : goal.returns-then-seen-a-eq1-clause-answer
 returns-then-seen-a-eq1-clause-answer c =
@@ -25,7 +23,7 @@ returns-then-seen-a-eq1-clause-answer c =
     let x = get_or live i 0 in
     let p = take i live in
     let b : Fits w8 x = search rules in
-    let d = dup x p _ (is_seen l.seen p x l.invariant.0 (of_memory b) l.invariant.3 c.if-seen-a-eq1.true) in
+    let d = dup x p _ (is_seen l.seen p x l.invariant.0 (of_memory b) l.invariant.2 c.if-seen-a-eq1.true) in
     sym d ∙ ap distinct (sym (split live i (length live) c.loop-item-test.true (omega arith)) ∙ take_all (length live) live (omega arith))
 
 pub loop-item-preserved : goal.loop-item-preserved
@@ -36,10 +34,9 @@ loop-item-preserved c =
     let x = get_or live i 0 in
     let p = take i live in
     let b : Fits w8 x = search rules in
-    let m = not_seen l.seen p x l.invariant.0 (of_memory b) l.invariant.3 c.if-seen-a-eq1.false in
+    let m = not_seen l.seen p x l.invariant.0 (of_memory b) l.invariant.2 c.if-seen-a-eq1.false in
     let o = one_more_lem live i c.loop-item-test.true in
-    let more : (j : ℕ) → j < i + 1 → get_or live j 0 < memory_words = λ j k. let f : Fits w8 (get_or live j 0) = search rules in of_memory f in
-    (simp length-set l.invariant.0, rw o (distinct_snoc x p l.invariant.1 m), more, λ a h. rw o (seen_next l.seen p x l.invariant.0 l.invariant.3 a h))
+    (simp length-set l.invariant.0, rw o (distinct_snoc x p l.invariant.1 m), λ a h. rw o (seen_next l.seen p x l.invariant.0 l.invariant.2 a h))
 
 pub returns-clause-answer : goal.returns-clause-answer
 returns-clause-answer c =
@@ -48,8 +45,4 @@ returns-clause-answer c =
     sym l.invariant.1 ∙ ap distinct (take_all l.item-index live (omega arith))
 
 pub returns-clause-below : goal.returns-clause-below
-returns-clause-below c = λ _ i h.
-    let a = c.args in
-    let k = length-take-le a.n a.items.now (omega arith) in
-    let b : get_or (take a.n a.items.now) i 0 < memory_words = c.loop-item.invariant.2 i (omega (arith, h, k)) in
-    rw (get_or-take a.n a.items.now i 0 h) at b
+returns-clause-below c = λ _ i. let b : Fits w8 (get_or c.args.items.now i 0) = search rules in of_memory b

@@ -13,5 +13,4 @@ abbrev pub invariant-loop-item : goal.invariant-loop-item
 invariant-loop-item l =
     let live = take l.n l.items in
     (length l.seen ≡ memory_words) × (distinct (take l.item-index live) ≡ true)
-    × ((j : ℕ) → j < l.item-index → get_or live j 0 < memory_words)
     × ((a : ℕ) → a < memory_words → get_or l.seen a 0 ≡ cond (member a (take l.item-index live)) 1 0)
