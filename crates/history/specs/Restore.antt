@@ -1,6 +1,7 @@
 -- What is refused of `push_history` and of `undo` (01, section 1, numbers 7, 8 and 10), and what a snapshot gives back (section 7; vm.rs, `restore`).
 -- Assumes nothing.
 use Rattle.std.specs.Prelude.{ℕ, Bool, cond, eqb, ltb, Result, Ok, Err}
+use Rattle.std.specs.Result.{result_and}
 use Rattle.encoding.specs.declared.refusal.Refusal.{Refusal}
 use Rattle.encoding.specs.declared.refusal.Refusal.TheVariants.{ShortStore, NoMachine, NoHistory}
 use Rattle.control.specs.declared.control.State.{State}
@@ -15,8 +16,8 @@ abbrev pub store_refusal_if : ℕ → Bool → ℕ → Result (Unit {0}) Refusal
 store_refusal_if n ok k = cond (ltb n record_length) (Err ShortStore) (cond ok (cond (ltb (limit_of n) k) (Err NoMachine) (Ok tt)) (Err NoMachine))
 
 -- of `undo` then 10: there is nothing to undo; and 8: the bytes of the newest record are none's
-abbrev pub undo_refusal_if : ℕ → Bool → Result (Unit {0}) Refusal
-undo_refusal_if k good = cond (eqb k 0) (Err NoHistory) (cond good (Ok tt) (Err NoMachine))
+abbrev pub undo_refusal_if : Result (Unit {0}) Refusal → ℕ → Bool → Result (Unit {0}) Refusal
+undo_refusal_if r k good = result_and r (cond (eqb k 0) (Err NoHistory) (cond good (Ok tt) (Err NoMachine)))
 
 -- the state of a snapshot; last transfer and last ALU record stay
 abbrev pub restored_state : Snapshot → State → State

@@ -22,10 +22,12 @@ pub fn store_refusal(good: bool, len: usize, count: usize) -> Result<(), Refusal
     Ok(())
 }
 
-// Of an undo then one with nothing to undo, or whose newest record is none.
-pub fn undo_refusal(count: usize, found: bool) -> Result<(), Refusal>
-    ensures { result ≡ undo_refusal_if count found }
+// Of an undo what the store and the state were refused, and then one with nothing to undo, or whose newest
+// record is none.
+pub fn undo_refusal(tested: Result<(), Refusal>, count: usize, found: bool) -> Result<(), Refusal>
+    ensures { result ≡ undo_refusal_if tested count found }
 {
+    tested?;
     if count == 0 {
         return Err(Refusal::NoHistory);
     }

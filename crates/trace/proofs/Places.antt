@@ -43,6 +43,10 @@ module _ (items : List ℕ) (n a : ℕ) (f : TouchFit n items) (of_memory : a < 
       go true m = rw m (same (ltb n memory_words))
       go false m = let h = room m in rw (lt-ltb n memory_words h, m) (added h, fits h m)
 
+-- every place has an address of memory, those past the live ones too
+pub all-below : {n : ℕ} {t : List ℕ} → TouchFit n t → (i : ℕ) → get_or t i 0 < memory_words
+all-below f = f.below
+
 -- an address written into the next place is noted in the live ones
 pub touched-live : (b : Option BusTransfer) (q : Places) {q' : Places} → q' ≡ touch_in b q → Addressed b → TouchFit q.count q.items
     → (take q'.count q'.items ≡ touched_by b (take q.count q.items)) × TouchFit q'.count q'.items

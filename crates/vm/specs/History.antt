@@ -2,7 +2,6 @@
 -- records.
 -- Assumes nothing.
 use Rattle.std.specs.Prelude.{ℕ, ◌-◌, Bool, List, length, Option, Some, None, is_some, Result, Ok, Err}
-use Rattle.std.specs.Result.{result_and}
 use Rattle.encoding.specs.declared.refusal.Refusal.{Refusal}
 use Rattle.control.specs.declared.control.State.{State}
 use Rattle.control.specs.declared.counters.Counters.{Counters}
@@ -18,7 +17,7 @@ unfoldable pub store_refusal : ℕ → Code → Result (Unit {0}) Refusal
 store_refusal n m = store_refusal_if n (is_machine m) m.history_len
 
 unfoldable pub undo_refusal : ℕ → Bool → Code → Result (Unit {0}) Refusal
-undo_refusal n good m = result_and (store_refusal n m) (undo_refusal_if m.history_len good)
+undo_refusal n good m = undo_refusal_if (store_refusal n m) m.history_len good
 
 -- what is kept of a machine
 abbrev pub snapshot_of : Code → Snapshot

@@ -37,7 +37,7 @@ impl Machine {
     {
         store_refusal(self.is_machine(), store.len(), self.history_len)?;
         let found = newest_record(store, self.history_len);
-        undo_refusal(self.history_len, found.is_some())?;
+        undo_refusal(Ok(()), self.history_len, found.is_some())?;
         if let Some(snapshot) = found {
             self.restore(snapshot);
         }
