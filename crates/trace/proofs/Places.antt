@@ -9,6 +9,10 @@ use Rattle.trace.specs.Touched.{noted, touched_by, Addressed, TouchFit}
 use Rattle.trace.specs.Forms.{Places, places_of, note_in, touch_in}
 use Rattle.trace.proofs.Lists.{below_of, full, distinct_snoc, below_set}
 
+-- every place has an address of memory, those past the live ones too
+pub all-below : {n : ℕ} {t : List ℕ} → TouchFit n t → (i : ℕ) → get_or t i 0 < memory_words
+all-below f = f.below
+
 module _ (items : List ℕ) (n a : ℕ) (f : TouchFit n items) (of_memory : a < memory_words) where
   -- an address that is not there has room
   room : member a (take n items) ≡ false → n < memory_words
@@ -42,10 +46,6 @@ module _ (items : List ℕ) (n a : ℕ) (f : TouchFit n items) (of_memory : a < 
       go : (m : Bool) → member a (take n items) ≡ m → Shows (noted a (take n items)) (note_in a (places_of n items))
       go true m = rw m (same (ltb n memory_words))
       go false m = let h = room m in rw (lt-ltb n memory_words h, m) (added h, fits h m)
-
--- every place has an address of memory, those past the live ones too
-pub all-below : {n : ℕ} {t : List ℕ} → TouchFit n t → (i : ℕ) → get_or t i 0 < memory_words
-all-below f = f.below
 
 -- an address written into the next place is noted in the live ones
 pub touched-live : (b : Option BusTransfer) (q : Places) {q' : Places} → q' ≡ touch_in b q → Addressed b → TouchFit q.count q.items
