@@ -15,7 +15,7 @@ use Rattle.history.specs.Store.{limit_of}
 abbrev pub store_refusal_if : ℕ → Bool → ℕ → Result (Unit {0}) Refusal
 store_refusal_if n ok k = cond (ltb n record_length) (Err ShortStore) (cond ok (cond (ltb (limit_of n) k) (Err NoMachine) (Ok tt)) (Err NoMachine))
 
--- of `undo` then 10: there is nothing to undo; and 8: the bytes of the newest record are none's
+-- of `undo` what store and state were refused, then 10: there is nothing to undo; and 8: the bytes of the newest record are none's
 abbrev pub undo_refusal_if : Result (Unit {0}) Refusal → ℕ → Bool → Result (Unit {0}) Refusal
 undo_refusal_if r k good = result_and r (cond (eqb k 0) (Err NoHistory) (cond good (Ok tt) (Err NoMachine)))
 

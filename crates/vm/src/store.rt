@@ -37,6 +37,7 @@ impl Machine {
     {
         store_refusal(self.is_machine(), store.len(), self.history_len)?;
         let found = newest_record(store, self.history_len);
+        // What is refused before stands above, so that no record is looked for then: here it is `Ok`.
         undo_refusal(Ok(()), self.history_len, found.is_some())?;
         if let Some(snapshot) = found {
             self.restore(snapshot);
